@@ -1,0 +1,163 @@
+-- Publications are numbered in the order of their making, and what stands is some of them.
+use Rattle.std.proofs.Common.{◌≡◌, ℕ, zero, suc, ◌+◌, ◌<◌, ◌≤◌, Bool, true, false, cond, not, Option, Some, None, List, [], ◌∷◌, ◌++◌, length, refl, sym, ap, ◌∙◌, arith}
+use Rattle.std.specs.Prelude.{slice_get, nat_lt}
+use Rattle.std.specs.List.{filter}
+use Rattle.news_types.specs.declared.entry.Act.{Act}
+use Rattle.news_types.specs.declared.entry.Act.TheVariants.{Request}
+use Rattle.news_types.specs.declared.command.Command.TheVariants.{Deschedule}
+use Rattle.news_types.specs.Names.{Bytes}
+use Rattle.news_types.specs.History.{History, moment}
+use Rattle.news_types.specs.Publications.{Pub, is_first_of}
+use Rattle.news_types.specs.Items.{Item, Made, Issue, made, issued_by, pubs_of_item, pubs_of_issue, kept_by, pubs, standing}
+use Rattle.news_types.specs.Feeds.{place, ordered, is_due, is_out, is_waiting, due_to, feed, waiting}
+use Rattle.news_types.specs.Members.{Each}
+use Rattle.news_types.proofs.Members.{each_map, each_append, each_filter, each_get, some_is, none_some}
+use Rattle.news_types.proofs.Bounds.{new_pubs}
+
+-- ---- a property of publications that goes over to what stands and to feeds
+
+pub each_place : (P : Pub → Type 0) (p : Pub) (l : List Pub) → P p → Each P l → Each P (place p l)
+each_place P p [] new all = (new, tt)
+each_place P p (q ∷ qs) new all =
+    elim (nat_lt p.release q.release) as (λ b. Each P (cond b (p ∷ q ∷ qs) (q ∷ place p qs))) [
+      | true ↦ (new, all)
+      | false ↦ (all.0, each_place P p qs new all.1)
+    ]
+
+pub each_ordered : (P : Pub → Type 0) (ps : List Pub) → Each P ps → Each P (ordered ps)
+each_ordered P [] all = tt
+each_ordered P (p ∷ ps) all = each_place P p (ordered ps) all.0 (each_ordered P ps all.1)
+
+pub each_due_to : (P : Pub → Type 0) (s : Bytes) (ps : List Pub) → Each P ps → Each P (due_to s ps)
+each_due_to P s ps all = each_filter P (is_due s) (ordered ps) (each_ordered P ps all)
+
+pub each_feed : (P : Pub → Type 0) (h : History) (s : Bytes) → Each P (standing h) → Each P (feed h s)
+each_feed P h s all = each_filter P (is_out (moment h)) (due_to s (standing h)) (each_due_to P s (standing h) all)
+
+pub each_waiting : (P : Pub → Type 0) (h : History) (s : Bytes) → Each P (standing h) → Each P (waiting h s)
+each_waiting P h s all = each_filter P (is_waiting (moment h)) (due_to s (standing h)) (each_due_to P s (standing h) all)
+
+pub each_kept : (P : Pub → Type 0) (act : Act) (ps : List Pub) → Each P ps → Each P (kept_by act ps)
+each_kept P (Request caller number (Deschedule i)) ps all = each_filter P (λ p. not (is_first_of i p)) ps all
+each_kept P (Request caller number command) ps all = all
+each_kept P _ ps all = all
+
+-- ---- numbers
+
+-- newest first, each number is the place: from the length down to 1
+abbrev pub CountsDown : List Pub → Type 0
+CountsDown [] = Unit {0}
+CountsDown (p ∷ ps) = (p.number ≡ length ps + 1) × CountsDown ps
+
+count_item : (h : History) (w : Made) (issue : Issue) (o : Option Item) → CountsDown w.pubs → CountsDown (pubs_of_item h w issue o ++ w.pubs)
+count_item h w issue None down = down
+count_item h w issue (Some it) down = (refl, down)
+
+count_issue : (h : History) (w : Made) (o : Option Issue) → CountsDown w.pubs → CountsDown (pubs_of_issue h w o ++ w.pubs)
+count_issue h w None down = down
+count_issue h w (Some issue) down = count_item h w issue issue.after down
+
+pub pubs_count_down : (h : History) → CountsDown (pubs h)
+pubs_count_down [] = tt
+pubs_count_down (e ∷ h) = count_issue h (made h) (issued_by h (made h) e.moment e.act) (pubs_count_down h)
+
+-- the publication at a place, from 0 for the newest
+pub number_at : (ps : List Pub) (k : ℕ) (p : Pub) → CountsDown ps → slice_get ps k ≡ Some p → p.number + k ≡ length ps
+number_at [] k p down is = absurd (none_some p is)
+number_at (q ∷ ps) zero p down is = let n : q.number ≡ p.number = ap (λ (x : Pub). x.number) (some_is q p is) in omega (arith, n, down.0)
+number_at (q ∷ ps) (suc k) p down is = let rest = number_at ps k p down.1 is in omega (arith, rest)
+
+-- every number lies from 1 to so many
+abbrev pub NumberTo : ℕ → Pub → Type 0
+NumberTo n p = (1 ≤ p.number) × (p.number ≤ n)
+
+numbers_to : (ps : List Pub) → CountsDown ps → Each (NumberTo (length ps)) ps
+numbers_to [] down = tt
+numbers_to (p ∷ ps) down =
+    ((omega (arith, down.0), omega (arith, down.0)), each_map (NumberTo (length ps)) (NumberTo (suc (length ps))) ps (λ q to. (to.0, omega (arith, to.1))) (numbers_to ps down.1))
+
+pub pub_numbers : (h : History) → Each (NumberTo (length (pubs h))) (pubs h)
+pub_numbers h = numbers_to (pubs h) (pubs_count_down h)
+
+-- ---- what stands is some of the publications
+
+abbrev pub IsAmong : List Pub → Pub → Type 0
+IsAmong ps p = (k : ℕ) × (slice_get ps k ≡ Some p)
+
+among_behind : (new ps : List Pub) (p : Pub) → IsAmong ps p → IsAmong (new ++ ps) p
+among_behind [] ps p among = among
+among_behind (q ∷ new) ps p among = let rest = among_behind new ps p among in (suc rest.0, rest.1)
+
+among_item : (h : History) (w : Made) (issue : Issue) (o : Option Item) (ps : List Pub) → Each (IsAmong (pubs_of_item h w issue o ++ ps)) (pubs_of_item h w issue o)
+among_item h w issue None ps = tt
+among_item h w issue (Some it) ps = ((0, refl), tt)
+
+among_issue : (h : History) (w : Made) (o : Option Issue) (ps : List Pub) → Each (IsAmong (pubs_of_issue h w o ++ ps)) (pubs_of_issue h w o)
+among_issue h w None ps = tt
+among_issue h w (Some issue) ps = among_item h w issue issue.after ps
+
+pub standing_among : (h : History) → Each (IsAmong (pubs h)) (standing h)
+standing_among [] = tt
+standing_among (e ∷ h) =
+    each_append (IsAmong (pubs (e ∷ h))) (new_pubs e h) (kept_by e.act (standing h)) (among_issue h (made h) (issued_by h (made h) e.moment e.act) (pubs h))
+    (each_map (IsAmong (pubs h)) (IsAmong (pubs (e ∷ h))) (kept_by e.act (standing h)) (among_behind (new_pubs e h) (pubs h)) (each_kept (IsAmong (pubs h)) e.act (standing h) (standing_among h)))
+
+-- each entry of a feed is the publication of its number
+pub feed_among : (h : History) (s : Bytes) → Each (IsAmong (pubs h)) (feed h s)
+feed_among h s = each_feed (IsAmong (pubs h)) h s (standing_among h)
+
+pub waiting_among : (h : History) (s : Bytes) → Each (IsAmong (pubs h)) (waiting h s)
+waiting_among h s = each_waiting (IsAmong (pubs h)) h s (standing_among h)
+
+-- two of one number are one
+pub same_number : (ps : List Pub) (p q : Pub) → CountsDown ps → IsAmong ps p → IsAmong ps q → p.number ≡ q.number → p ≡ q
+same_number ps p q down one two same =
+    let a = number_at ps one.0 p down one.1 in
+    let b = number_at ps two.0 q down two.1 in
+    let places : one.0 ≡ two.0 = omega (arith, a, b, same) in
+    some_is p q (sym one.1 ∙ ap (slice_get ps) places ∙ two.1)
+
+-- ---- the numbers of what stands fall
+
+abbrev pub Falls : List Pub → Type 0
+Falls [] = Unit {0}
+Falls (p ∷ ps) = Each (λ (q : Pub). q.number < p.number) ps × Falls ps
+
+pub falls_filter : (t : Pub → Bool) (ps : List Pub) → Falls ps → Falls (filter t ps)
+falls_filter t [] falls = tt
+falls_filter t (p ∷ ps) falls =
+    elim (t p) as (λ b. Falls (cond b (p ∷ filter t ps) (filter t ps))) [
+      | true ↦ (each_filter (λ (q : Pub). q.number < p.number) t ps falls.0, falls_filter t ps falls.1)
+      | false ↦ falls_filter t ps falls.1
+    ]
+
+falls_kept : (act : Act) (ps : List Pub) → Falls ps → Falls (kept_by act ps)
+falls_kept (Request caller number (Deschedule i)) ps falls = falls_filter (λ p. not (is_first_of i p)) ps falls
+falls_kept (Request caller number command) ps falls = falls
+falls_kept _ ps falls = falls
+
+-- every number is at most so much
+abbrev pub NumbersTo : ℕ → List Pub → Type 0
+NumbersTo n ps = Each (λ (p : Pub). p.number ≤ n) ps
+
+falls_item : (h : History) (w : Made) (issue : Issue) (o : Option Item) (ps : List Pub) → NumbersTo (length w.pubs) ps → Falls ps → Falls (pubs_of_item h w issue o ++ ps)
+falls_item h w issue None ps to falls = falls
+falls_item h w issue (Some it) ps to falls =
+    (each_map (λ (q : Pub). q.number ≤ length w.pubs) (λ (q : Pub). q.number < length w.pubs + 1) ps (λ q le. omega (arith, le)) to, falls)
+
+falls_issue : (h : History) (w : Made) (o : Option Issue) (ps : List Pub) → NumbersTo (length w.pubs) ps → Falls ps → Falls (pubs_of_issue h w o ++ ps)
+falls_issue h w None ps to falls = falls
+falls_issue h w (Some issue) ps to falls = falls_item h w issue issue.after ps to falls
+
+pub standing_numbers : (h : History) → Each (NumberTo (length (pubs h))) (standing h)
+standing_numbers h =
+    each_map (IsAmong (pubs h)) (NumberTo (length (pubs h))) (standing h)
+    (λ p among. each_get (NumberTo (length (pubs h))) (pubs h) among.0 p (pub_numbers h) among.1) (standing_among h)
+
+pub standing_falls : (h : History) → Falls (standing h)
+standing_falls [] = tt
+standing_falls (e ∷ h) =
+    falls_issue h (made h) (issued_by h (made h) e.moment e.act) (kept_by e.act (standing h))
+    (each_kept (λ (p : Pub). p.number ≤ length (pubs h)) e.act (standing h)
+    (each_map (NumberTo (length (pubs h))) (λ (p : Pub). p.number ≤ length (pubs h)) (standing h) (λ p to. to.1) (standing_numbers h)))
+    (falls_kept e.act (standing h) (standing_falls h))
