@@ -1,0 +1,4 @@
+pub mod Civil
+pub mod Texts
+pub mod Reader
+pub mod Writer

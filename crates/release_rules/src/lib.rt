@@ -1,0 +1,13 @@
+//! When a publication is released, when a push is tried again, and how moments are written.
+#![tactic(auto)]
+
+mod delays;
+mod reading;
+mod writing;
+
+pub use delays::{release, retry_delay};
+pub use reading::moment_of_text;
+pub use writing::{MomentText, text_of_moment};
+
+#[cfg(test)]
+mod tests;
