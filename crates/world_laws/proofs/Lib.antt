@@ -1,0 +1,16 @@
+pub mod Frames
+pub mod Order
+pub mod Later
+pub mod Behind
+pub mod Answers
+pub mod Steps
+pub mod Followers
+pub mod Replies
+pub mod Events
+pub mod Heard
+pub mod Headline
+pub mod Growth
+pub mod Keeps
+pub mod Bridge
+pub mod WrongWorlds
+pub mod Reach

@@ -1,0 +1,9 @@
+pub mod Receiver
+pub mod World
+pub mod FeedOrder
+pub mod Headline
+pub mod Growth
+pub mod Keeps
+pub mod Bridge
+pub mod Example
+pub mod WrongWorlds
