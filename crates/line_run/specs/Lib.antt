@@ -1,0 +1,5 @@
+pub mod Batch
+pub mod Life
+pub mod Run
+pub mod Status
+pub mod Step

@@ -1,0 +1,29 @@
+// Why a run ended.
+ghost use Rattle.std.specs.Prelude.{◌≡◌};
+ghost use Rattle.line_run.specs.declared.ending.Ending.TheVariants.{Memory};
+
+use std::alloc::AllocError;
+
+#[derive(Clone, Copy, Debug, PartialEq, Eq)]
+pub enum Ending {
+    /// The input failed.
+    Read,
+    /// The output failed.
+    Write,
+    /// The log failed.
+    Store,
+    /// The next record would pass the limit.
+    Full,
+    /// There was no memory.
+    Memory,
+    /// The input has too many bytes.
+    TooLong,
+}
+
+impl From<AllocError> for Ending {
+    ghost from_gives = { λ _ e. e ≡ Memory };
+
+    fn from(_: AllocError) -> Self {
+        Ending::Memory
+    }
+}

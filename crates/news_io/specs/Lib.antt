@@ -1,0 +1,9 @@
+pub mod Calls
+pub mod Clock
+pub mod Disk
+pub mod Faults
+pub mod Keeper
+pub mod Kept
+pub mod Link
+pub mod Moments
+pub mod Replay

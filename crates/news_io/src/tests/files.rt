@@ -1,0 +1,78 @@
+//! Disks.
+use super::numbers;
+use crate::{Disk, Failed, FileDisk, MemoryDisk};
+use std::fs;
+use std::process::Abort;
+use std::test::Fail;
+
+const FOLDER: &str = "news_io_disk";
+
+/// Writes over and past the end, and reads back.
+fn writes_and_reads<D: Disk>(rt: &impl Abort, disk: &mut D) -> Result<(), Failed> {
+    assert_eq!(rt; disk.size()?, 0);
+    disk.write_at(0, b"newsroom")?;
+    disk.write_at(4, b"desk")?;
+    disk.write_at(8, b"!")?;
+    disk.sync()?;
+    assert_eq!(rt; disk.size()?, 9);
+    let mut back = [b'-'; 12];
+    assert_eq!(rt; disk.read(2, &mut back)?, 7);
+    assert_eq!(rt; back.as_slice(), b"wsdesk!-----".as_slice());
+    assert_eq!(rt; disk.read(9, &mut back)?, 0);
+    Ok(())
+}
+
+#[test]
+fn a_disk_in_memory_is_written_and_read(rt: HostRuntime) -> Result<(), Fail> {
+    let mut disk = MemoryDisk::new(rt.alloc());
+    if writes_and_reads(&rt, &mut disk).is_err() {
+        assert_eq!(rt; disk.fault_count(), 1, "refused growth counts");
+        return Err(Fail::new("no memory"));
+    }
+    assert_eq!(rt; disk.as_bytes(), b"newsdesk!".as_slice());
+    assert_eq!(rt; disk.call_count(), 8);
+    Ok(())
+}
+
+#[test]
+fn calls_of_a_disk_fail_by_their_numbers(rt: HostRuntime) -> Result<(), Fail> {
+    let alloc = rt.alloc();
+    let mut disk = MemoryDisk::holding(alloc, b"newsroom")?.failing_at(numbers(alloc, &[1, 3])?);
+    let mut back = [0; 4];
+    assert_eq!(rt; disk.write_at(0, b"x"), Err(Failed));
+    assert_eq!(rt; disk.read(4, &mut back), Ok(4));
+    assert_eq!(rt; back, *b"room");
+    assert_eq!(rt; disk.sync(), Err(Failed));
+    let mut disk = disk.stopped_after(1);
+    assert_eq!(rt; disk.size(), Ok(8));
+    assert_eq!(rt; disk.size(), Err(Failed));
+    assert_eq!(rt; disk.read(0, &mut back), Err(Failed));
+    assert_eq!(rt; disk.fault_count(), 2);
+    assert_eq!(rt; disk.as_bytes(), b"newsroom".as_slice());
+    Ok(())
+}
+
+#[test]
+fn a_file_is_made_written_and_read(rt: HostRuntime) -> Result<(), Fail> {
+    let alloc = rt.alloc();
+    let _ = fs::remove_dir_all(&rt, FOLDER);
+    fs::create_dir(&rt, FOLDER)?;
+    let path = String::from_str(alloc, "news_io_disk/log")?;
+    let mut disk = FileDisk::new(rt, path);
+    assert!(rt; !fs::exists(&rt, "news_io_disk/log")?);
+    if writes_and_reads(&rt, &mut disk).is_err() {
+        assert_eq!(rt; disk.fault_count(), 1);
+        return Err(Fail::new("a call of the system failed"));
+    }
+    assert_eq!(rt;
+        fs::read_to_string(&rt, "news_io_disk/log")?.as_str(),
+        "newsdesk!"
+    );
+    assert_eq!(rt; disk.fault_count(), 0);
+    let mut missing = FileDisk::new(rt, String::from_str(alloc, "news_io_disk/none/log")?);
+    assert_eq!(rt; missing.size(), Err(Failed));
+    assert_eq!(rt; missing.write_at(0, b"x"), Err(Failed));
+    assert_eq!(rt; missing.fault_count(), 2);
+    fs::remove_dir_all(&rt, FOLDER)?;
+    Ok(())
+}
