@@ -49,7 +49,12 @@ pub fn denial_text(alloc: Global, denial: &Denial) -> Result<Bytes, Memory>
 {
     let mut members = answering(alloc, "denied")?;
     put_text(&mut members, alloc, "denial", words::word_of_denial(denial))?;
-    put_number(&mut members, alloc, "number", words::number_of_denial(denial))?;
+    put_number(
+        &mut members,
+        alloc,
+        "number",
+        words::number_of_denial(denial),
+    )?;
     put_carried(&mut members, alloc, denial)?;
     written(alloc, members)
 }
@@ -83,9 +88,7 @@ fn put_carried(
         Denial::NotReleased { release } => put_number(members, alloc, "release", *release),
         Denial::AlreadyReleased { release } => put_number(members, alloc, "release", *release),
         Denial::PastMoment { moment } => put_number(members, alloc, "moment", *moment),
-        Denial::ReceiptAhead { length } => {
-            put_number(members, alloc, "length", *length as u64)
-        }
+        Denial::ReceiptAhead { length } => { put_number(members, alloc, "length", *length as u64) }
         Denial::Limit { which, number } => {
             put_text(members, alloc, "which", words::word_of_thing(*which))?;
             put_number(members, alloc, "limit", *number as u64)
@@ -112,7 +115,12 @@ pub fn bad_text(alloc: Global, property: LineProperty) -> Result<Bytes, Memory>
     ensures { IfOk result (λ bytes. bytes ≡ said.bad_bytes property) }
 {
     let mut members = answering(alloc, "bad")?;
-    put_text(&mut members, alloc, "property", words::word_of_property(property))?;
+    put_text(
+        &mut members,
+        alloc,
+        "property",
+        words::word_of_property(property),
+    )?;
     written(alloc, members)
 }
 

@@ -145,11 +145,7 @@ fn name_of(found: &Value, property: LineProperty) -> Result<Name, LineProperty>
 }
 
 /// A name that has to be there.
-pub(crate) fn name(
-    object: &Value,
-    key: &str,
-    property: LineProperty,
-) -> Result<Name, LineProperty>
+pub(crate) fn name(object: &Value, key: &str, property: LineProperty) -> Result<Name, LineProperty>
     ensures { result ≡ said.name property (get key.now (view object.now)) }
 {
     match object.get(key) {
@@ -158,11 +154,7 @@ pub(crate) fn name(
     }
 }
 
-fn names_of(
-    alloc: Global,
-    list: &Vec<Value>,
-    property: LineProperty,
-) -> Result<Names, LineFault>
+fn names_of(alloc: Global, list: &Vec<Value>, property: LineProperty) -> Result<Names, LineFault>
     ensures { IsRead (said.names_in property (items_view list.now.items)) result }
 {
     let mut names = Vec::new(alloc);

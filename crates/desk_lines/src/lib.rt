@@ -15,3 +15,6 @@ mod written;
 pub use answers::{answer_text, bad_text, denial_text, reply_text};
 pub use lines::{Asked, read_line};
 pub use property::{LineFault, LineProperty};
+
+#[cfg(test)]
+mod tests;

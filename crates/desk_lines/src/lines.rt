@@ -23,7 +23,10 @@ pub enum Asked {
     /// A question on the list as it is.
     Query(Query),
     /// A receipt: the subscriber has so many entries of its feed.
-    Receipt { subscriber: Name, n: u32 },
+    Receipt {
+        subscriber: Name,
+        n: u32,
+    },
 }
 
 /// Reads a line without its line end.

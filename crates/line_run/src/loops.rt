@@ -4,8 +4,8 @@ ghost use Rattle.input_lines.specs.Lines.{unless_empty, ended_from, open_from};
 ghost use Rattle.line_run.specs.Batch.{Did, Causes};
 
 use crate::{Answering, Ending, Stopped};
-use news_io::{Sink, write_all};
 use input_lines::{behind, keep, line_feed, show, without_return};
+use news_io::{Sink, write_all};
 
 /// Answers a line, and writes the answer with a line feed.
 pub fn answer_line<O: Sink, A: Answering>(
