@@ -1,18 +1,21 @@
 -- Publications are numbered in the order of their making, and what stands is some of them.
-use Rattle.std.proofs.Common.{◌≡◌, ℕ, zero, suc, ◌+◌, ◌<◌, ◌≤◌, Bool, true, false, cond, not, Option, Some, None, List, [], ◌∷◌, ◌++◌, length, refl, sym, ap, ◌∙◌, arith}
+use Rattle.std.proofs.Common.{◌≡◌, ℕ, zero, suc, ◌+◌, ◌<◌, ◌≤◌, Bool, true, false, cond, not, Option, Some, None, List, [], ◌∷◌, ◌++◌, length, refl, sym, ap, ◌∙◌, arith, ◌-◌, ◌==◌}
 use Rattle.std.specs.Prelude.{slice_get, nat_lt}
 use Rattle.std.specs.List.{filter}
+use Rattle.std.proofs.lemmas.Bool.Decides.{nat_tests}
 use Rattle.news_types.specs.declared.entry.Act.{Act}
-use Rattle.news_types.specs.declared.entry.Act.TheVariants.{Request}
-use Rattle.news_types.specs.declared.command.Command.TheVariants.{Deschedule}
+use Rattle.news_types.specs.declared.entry.Act.TheVariants.{Ingest, Request}
+use Rattle.news_types.specs.declared.command.Command.TheVariants.{Flash, Publish, Correct, Kill, Recall, Deschedule}
+use Rattle.news_types.specs.declared.command.Command.{Command}
+use Rattle.news_types.specs.declared.story.Incoming.{Incoming}
 use Rattle.news_types.specs.Names.{Bytes}
 use Rattle.news_types.specs.History.{History, moment}
-use Rattle.news_types.specs.Publications.{Pub, is_first_of}
-use Rattle.news_types.specs.Items.{Item, Made, Issue, made, issued_by, pubs_of_item, pubs_of_issue, kept_by, pubs, standing}
+use Rattle.news_types.specs.Publications.{Pub, is_first_of, standing_first}
+use Rattle.news_types.specs.Items.{Item, Made, Issue, Effect, NewAt, numbered, changed_by, settled, named_item, behind, items_by, items_by_command, items_by_effect, effect_by, made, issued_by, issued_by_command, issued_by_effect, pubs_of_item, pubs_of_issue, kept_by, item_count, pubs, standing}
 use Rattle.news_types.specs.Feeds.{place, ordered, is_due, is_out, is_waiting, due_to, feed, waiting}
 use Rattle.news_types.specs.Members.{Each}
-use Rattle.news_types.proofs.Members.{each_map, each_append, each_filter, each_get, some_is, none_some}
-use Rattle.news_types.proofs.Bounds.{new_pubs}
+use Rattle.news_types.proofs.Members.{each_map, each_append, each_filter, each_get, get_within, mapped, some_is, none_some}
+use Rattle.news_types.proofs.Bounds.{new_pubs, pushed_length, command_items, items_grow}
 
 -- ---- a property of publications that goes over to what stands and to feeds
 
@@ -161,3 +164,75 @@ standing_falls (e ∷ h) =
     (each_kept (λ (p : Pub). p.number ≤ length (pubs h)) e.act (standing h)
     (each_map (NumberTo (length (pubs h))) (λ (p : Pub). p.number ≤ length (pubs h)) (standing h) (λ p to. to.1) (standing_numbers h)))
     (falls_kept e.act (standing h) (standing_falls h))
+
+-- ---- what is published is of an item that is there
+
+-- from 1 to so many
+abbrev pub ItemTo : ℕ → ℕ → Type 0
+ItemTo n i = (1 ≤ i) × (i ≤ n)
+
+to_more : (a b i : ℕ) → a ≤ b → ItemTo a i → ItemTo b i
+to_more a b i le to = (to.0, omega (arith, to.1, le))
+
+no_zero : (i : ℕ) → (suc i == 0) ≡ false
+no_zero i = grind (arith, nat_tests)
+
+less_one : (i : ℕ) → suc i - 1 ≡ i
+less_one i = omega arith
+
+-- item i of a list is there where i is one of its numbers
+pub numbered_there : (items : List Item) (i : ℕ) (it : Item) → numbered items i ≡ Some it → ItemTo (length items) i
+numbered_there items zero it is = absurd (none_some it is)
+numbered_there items (suc i) it is = let lt = get_within items i it (rw (no_zero i, less_one i) at is) in (omega arith, omega (arith, lt))
+
+new_to : (items : List Item) (it : Item) → ItemTo (length (items ++ it ∷ [])) (length items + 1)
+new_to items it = let one = pushed_length items it in (omega arith, omega (arith, one))
+
+behind_to : (w : Made) (m : ℕ) (caller : Bytes) (command : Command) (it : Item) → behind w m caller command ≡ Some it → ItemTo (length w.items) (named_item command)
+behind_to w m caller command it is =
+    let after : Item → Item = λ x. changed_by caller command (settled m (standing_first (named_item command) w.standing) x) in
+    let found = mapped after (numbered w.items (named_item command)) it is in
+    numbered_there w.items (named_item command) found.0 found.1
+
+abbrev IssueTo : ℕ → Option Issue → Type 0
+IssueTo n None = Unit {0}
+IssueTo n (Some issue) = (it : Item) → issue.after ≡ Some it → ItemTo n issue.item
+
+command_to : (w : Made) (m : ℕ) (caller : Bytes) (command : Command) → IssueTo (length (items_by_command w m caller command)) (issued_by_command w m caller command)
+command_to w m caller (Flash story targets) = λ it is. new_to w.items _
+command_to w m caller (Publish i session schedule embargo targets) =
+    let command : Command = Publish i session schedule embargo targets in λ it is. to_more (length w.items) _ i (command_items w m caller command).0 (behind_to w m caller command it is)
+command_to w m caller (Correct i session story) =
+    let command : Command = Correct i session story in λ it is. to_more (length w.items) _ i (command_items w m caller command).0 (behind_to w m caller command it is)
+command_to w m caller (Kill i session note) =
+    let command : Command = Kill i session note in λ it is. to_more (length w.items) _ i (command_items w m caller command).0 (behind_to w m caller command it is)
+command_to w m caller (Recall i session note) =
+    let command : Command = Recall i session note in λ it is. to_more (length w.items) _ i (command_items w m caller command).0 (behind_to w m caller command it is)
+command_to w m caller _ = tt
+
+effect_to : (w : Made) (m : ℕ) (name : Bytes) (come : Incoming) (given : Effect) → IssueTo (length (items_by_effect w name come given)) (issued_by_effect w m name come given)
+effect_to w m name come (NewAt place true) = λ it is. new_to w.items _
+effect_to w m name come _ = tt
+
+act_to : (h : History) (w : Made) (m : ℕ) (act : Act) → IssueTo (length (items_by h w m act)) (issued_by h w m act)
+act_to h w m (Request caller number command) = command_to w m caller command
+act_to h w m (Ingest name come) = effect_to w m name come (effect_by h w name come m)
+act_to h w m _ = tt
+
+abbrev pub OfItemTo : ℕ → Pub → Type 0
+OfItemTo n p = ItemTo n p.item
+
+item_to : (h : History) (w : Made) (n : ℕ) (issue : Issue) (o : Option Item) → ((it : Item) → o ≡ Some it → ItemTo n issue.item) → Each (OfItemTo n) (pubs_of_item h w issue o)
+item_to h w n issue None to = tt
+item_to h w n issue (Some it) to = (to it refl, tt)
+
+issue_to : (h : History) (w : Made) (n : ℕ) (o : Option Issue) → IssueTo n o → Each (OfItemTo n) (pubs_of_issue h w o)
+issue_to h w n None to = tt
+issue_to h w n (Some issue) to = item_to h w n issue issue.after to
+
+pub pub_items : (h : History) → Each (OfItemTo (item_count h)) (pubs h)
+pub_items [] = tt
+pub_items (e ∷ h) =
+    each_append (OfItemTo (item_count (e ∷ h))) (new_pubs e h) (pubs h)
+    (issue_to h (made h) (item_count (e ∷ h)) (issued_by h (made h) e.moment e.act) (act_to h (made h) e.moment e.act))
+    (each_map (OfItemTo (item_count h)) (OfItemTo (item_count (e ∷ h))) (pubs h) (λ p. to_more (item_count h) (item_count (e ∷ h)) p.item (items_grow e h).0) (pub_items h))
