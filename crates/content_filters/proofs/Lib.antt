@@ -1,0 +1,8 @@
+pub mod Parts
+pub mod Urgency
+pub mod Ages
+pub mod Judging
+pub mod Absent
+pub mod Facts
+pub mod InOrder
+pub mod Changed

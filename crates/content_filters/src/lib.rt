@@ -1,0 +1,20 @@
+//! Content filters: conditions on stories, the filters that combine them, and the filters that block every story
+//! that they match.
+#![tactic(auto)]
+
+mod blocks;
+mod change;
+mod condition;
+mod folds;
+mod judge;
+mod operands;
+mod places;
+mod table;
+#[cfg(test)]
+mod tests;
+mod verdicts;
+
+pub use change::FilterChange;
+pub use judge::FilterDenial;
+pub use table::Filters;
+pub use verdicts::Verdicts;

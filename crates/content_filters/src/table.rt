@@ -1,0 +1,157 @@
+//! The table of conditions, filters and blocks.
+ghost use Rattle.std.specs.Prelude.{◌≡◌, ℕ, List, [], Option, None, IfOk, map};
+ghost use Rattle.std.specs.List.{list_any, list_all};
+ghost use Rattle.news_types.specs.Names.{Bytes};
+ghost use Rattle.news_types.specs.Conditions.{Condition, is_true_of};
+ghost use Rattle.news_types.specs.Filters.{Filter, has_filter, holds, matches_by};
+ghost use Rattle.news_types.specs.declared.story.Story.{Story};
+ghost use Rattle.content_filters.specs.Kept.{condition_of, verdict_at, truth, AreBlocks};
+ghost use Rattle.content_filters.specs.Keeps.{Keeps, AreVerdicts, judged};
+
+use crate::condition::KeptCondition;
+use crate::places::{place_of, verdict_at};
+use crate::verdicts::Verdicts;
+use news_types::{Memory, Name, Statement, Statements, Story};
+use std::alloc::Global;
+use std::collections::HashMap;
+
+/// A filter as the table keeps it.
+#[derive(Drop)]
+pub(crate) struct KeptFilter {
+    pub(crate) name: Name,
+    pub(crate) statements: Statements,
+}
+
+/// Conditions, filters and blocks.
+///
+/// Conditions and filters stand in the order of their adding, so that one pass from the oldest filter to the
+/// newest knows each filter that a statement may name.
+#[derive(Drop)]
+pub struct Filters {
+    pub(crate) alloc: Global,
+    pub(crate) conditions: Vec<KeptCondition>,
+    pub(crate) condition_places: HashMap<Name, usize>,
+    pub(crate) filters: Vec<KeptFilter>,
+    pub(crate) filter_places: HashMap<Name, usize>,
+    pub(crate) blocks: Vec<Name>,
+}
+
+impl Filters {
+    /// With nothing in it.
+    pub fn new(alloc: Global) -> Result<Filters, Memory>
+        ensures { IfOk result (λ filters. Keeps filters (λ _. None) 0 []) }
+    {
+        Ok(Filters {
+            alloc,
+            conditions: Vec::new(alloc),
+            condition_places: HashMap::new(alloc),
+            filters: Vec::new(alloc),
+            filter_places: HashMap::new(alloc),
+            blocks: Vec::new(alloc),
+        })
+    }
+
+    /// Whether the filter is there. It takes no memory.
+    pub fn has(&self, filter: &Name) -> bool
+        ensures { (condition : Bytes → Option Condition) (count : ℕ) (fs : List Filter) → Keeps self.now condition count fs → result ≡ has_filter filter.now fs }
+    {
+        place_of(&self.filter_places, filter).is_some()
+    }
+
+    /// The global blocks, in byte order. It takes no memory.
+    pub fn blocks(&self) -> &[Name]
+        ensures { (condition : Bytes → Option Condition) (count : ℕ) (fs : List Filter) → Keeps self.now condition count fs → AreBlocks fs result.now }
+    {
+        self.blocks.as_slice()
+    }
+
+    /// Whether the filter matches the story: one of its statements holds, and a statement holds where all that it
+    /// names match. A filter that is not there matches nothing.
+    ///
+    /// Who asks for many filters of one story asks for its `verdicts` once.
+    pub fn matches(&self, filter: &Name, story: &Story) -> Result<bool, Memory>
+        ensures { IfOk result (λ answer. (condition : Bytes → Option Condition) (count : ℕ) (fs : List Filter) → Keeps self.now condition count fs
+            → answer ≡ matches_by (truth condition story.now) fs filter.now) }
+    {
+        let verdicts = self.verdicts(story)?;
+        Ok(self.matches_with(filter, &verdicts))
+    }
+
+    /// The truth of every condition for the story, and then of every filter in the order of age. Each field of the
+    /// story is folded at most once, and each condition and each filter is judged once.
+    pub fn verdicts(&self, story: &Story) -> Result<Verdicts, Memory>
+        ensures { IfOk result (λ verdicts. (condition : Bytes → Option Condition) (count : ℕ) (fs : List Filter) → Keeps self.now condition count fs
+            → AreVerdicts verdicts self.now condition fs story.now) }
+    {
+        let conditions = self.condition_verdicts(story)?;
+        let filters = self.filter_verdicts(conditions.as_slice())?;
+        Ok(Verdicts {
+            conditions,
+            filters,
+        })
+    }
+
+    /// Whether the filter matches the story for which the verdicts of this table were made. It takes no memory.
+    pub fn matches_with(&self, filter: &Name, verdicts: &Verdicts) -> bool
+        ensures { (condition : Bytes → Option Condition) (count : ℕ) (fs : List Filter) (story : Story) → Keeps self.now condition count fs → AreVerdicts verdicts.now self.now condition fs story
+            → result ≡ matches_by (truth condition story) fs filter.now }
+    {
+        verdict_at(&self.filter_places, verdicts.filters.as_slice(), filter)
+    }
+
+    /// The truth of every condition, in the order of age.
+    fn condition_verdicts(&self, story: &Story) -> Result<Vec<bool>, Memory>
+        ensures { IfOk result (λ verdicts. verdicts.items ≡ map (is_true_of story.now) (map condition_of self.now.conditions.items)) }
+    {
+        let mut folds = Vec::new(self.alloc);
+        let mut verdicts = Vec::new(self.alloc);
+        for condition in self.conditions.iter() {
+            let verdict = condition.is_true(self.alloc, story, &mut folds)?;
+            verdicts.push(verdict)?;
+        }
+        Ok(verdicts)
+    }
+
+    /// The truth of every filter, from the oldest on: each by the conditions and the filters before it.
+    fn filter_verdicts(&self, conditions: &[bool]) -> Result<Vec<bool>, Memory>
+        ensures { IfOk result (λ verdicts. verdicts.items ≡ judged self.now conditions.now [] self.now.filters.items) }
+    {
+        let mut verdicts = Vec::new(self.alloc);
+        for filter in self.filters.iter() {
+            let verdict = self.any_holds(
+                filter.statements.as_slice(),
+                conditions,
+                verdicts.as_slice(),
+            );
+            verdicts.push(verdict)?;
+        }
+        Ok(verdicts)
+    }
+
+    /// Whether a statement holds, by these verdicts on conditions and on filters.
+    fn any_holds(&self, statements: &[Statement], conditions: &[bool], filters: &[bool]) -> bool
+        ensures { result ≡ list_any (holds (verdict_at self.now.condition_places conditions.now) (verdict_at self.now.filter_places filters.now)) statements.now }
+    {
+        statements
+            .iter()
+            .any(|statement| self.holds(statement, conditions, filters))
+    }
+
+    /// Whether all that the statement names match.
+    fn holds(&self, statement: &Statement, conditions: &[bool], filters: &[bool]) -> bool
+        ensures { result ≡ holds (verdict_at self.now.condition_places conditions.now) (verdict_at self.now.filter_places filters.now) statement.now }
+    {
+        all_match(
+            &self.condition_places,
+            conditions,
+            statement.conditions.as_slice(),
+        ) && all_match(&self.filter_places, filters, statement.filters.as_slice())
+    }
+}
+
+/// Whether the verdict at each of the names is yes.
+fn all_match(places: &HashMap<Name, usize>, verdicts: &[bool], names: &[Name]) -> bool
+    ensures { result ≡ list_all (verdict_at places.now verdicts.now) names.now }
+{
+    names.iter().all(|name| verdict_at(places, verdicts, name))
+}
