@@ -1,0 +1,12 @@
+pub mod Laws
+pub mod Fields
+pub mod Numbers
+pub mod Scans
+pub mod Texts
+pub mod Names
+pub mod Until
+pub mod Options
+pub mod Whole
+pub mod Words
+pub mod Numerals
+pub mod Runs
