@@ -1,0 +1,177 @@
+-- The laws of stories, of what providers send, and of statements, places and rules.
+use Rattle.std.proofs.Common.{◌≡◌, ℕ, ◌<◌, ◌≤◌, ◌^◌, List, Option, refl, arith, Bool}
+use Rattle.std.specs.Int.{w32}
+use Rattle.news_types.specs.declared.story.Story.{Story}
+use Rattle.news_types.specs.declared.story.Incoming.{Incoming}
+use Rattle.news_types.specs.declared.rules.Statement.{Statement}
+use Rattle.news_types.specs.declared.rules.Rule.{Rule}
+use Rattle.byte_formats.specs.Spelling.{IsName, IsText, IsList, IsOption}
+use Rattle.byte_formats.specs.Format.{Format, pair, ranged, whole}
+use Rattle.byte_formats.specs.Fields.{name, text, option, list, flag}
+use Rattle.byte_formats.proofs.Laws.{Lawful, via}
+use Rattle.byte_formats.proofs.Fields.{pair_lawful, ranged_lawful}
+use Rattle.byte_formats.proofs.Numbers.{wide32, whole_lawful}
+use Rattle.byte_formats.proofs.Names.{name_lawful}
+use Rattle.byte_formats.proofs.Texts.{text_lawful}
+use Rattle.byte_formats.proofs.Options.{option_lawful, list_lawful, flag_lawful}
+use Rattle.entry_codec.specs.Fits.{IsMoment, FitsStory, FitsIncoming, FitsStatement, FitsRule}
+use Rattle.entry_codec.specs.Formed.{IsFormedStory, IsFormedIncoming, IsFormedStatement, IsFormedPlace, IsFormedRule}
+use Rattle.entry_codec.specs.Reading as reading
+use Rattle.entry_codec.specs.Reading.{story_at, story_fields, story_of, incoming_at, incoming_fields, incoming_of, statement_at, statement_fields, place_at, rule_at, rule_fields, rule_of}
+use Rattle.entry_codec.proofs.WordLaws.{Any, kind_lawful, status_lawful, moment_lawful}
+
+-- ---- a format with its law
+
+pub record Kept (A : Type 0) : Type 1 where
+  pub format : Format A
+  pub holds : A → Type 0
+  pub law : Lawful format holds
+
+abbrev pub kept : {A : Type 0} (F : Format A) (P : A → Type 0) → Lawful F P → Kept A
+kept F P l = record { format = F; holds = P; law = l }
+
+-- one behind the other
+abbrev pub both : {A B : Type 0} → Kept A → Kept B → Kept (A × B)
+both a b = record { format = pair a.format b.format; holds = λ p. a.holds p.0 × b.holds p.1; law = pair_lawful a.format a.holds b.format b.holds a.law b.law }
+
+abbrev pub a_name : Kept (List ℕ)
+a_name = kept name IsName name_lawful
+
+abbrev pub a_flag : Kept Bool
+a_flag = kept flag (λ _. Unit {0}) flag_lawful
+
+abbrev pub a_text : (limit : ℕ) → limit < 2 ^ 32 → Kept (List ℕ)
+a_text limit fits = kept (text limit) (IsText limit) (text_lawful limit fits)
+
+abbrev pub a_number : Kept ℕ
+a_number = kept (whole w32) (λ n. n < 2 ^ 32) (whole_lawful w32 (2 ^ 32) wide32)
+
+abbrev pub a_byte : (most : ℕ) → Kept ℕ
+a_byte most = kept (ranged 0 most) (λ b. (0 ≤ b) × (b ≤ most)) (ranged_lawful 0 most (omega arith))
+
+abbrev pub a_moment : Kept ℕ
+a_moment = kept reading.moment IsMoment moment_lawful
+
+abbrev pub some_names : (limit : ℕ) → limit < 2 ^ 16 → Kept (List (List ℕ))
+some_names limit fits = kept (list limit name) (IsList limit IsName) (list_lawful limit name IsName fits name_lawful)
+
+abbrev pub maybe : {A : Type 0} → Kept A → Kept (Option A)
+maybe k = kept (option k.format) (IsOption k.holds) (option_lawful k.format k.holds k.law)
+
+-- ---- stories
+
+pub record IsStory (s : Story) : Type 0 where
+  pub fits : FitsStory s
+  pub formed : IsFormedStory s
+
+abbrev story_kept : Kept reading.StoryFields
+story_kept =
+    both (kept reading.kind Any kind_lawful) (both (a_byte 9) (both (a_text 500 (omega arith)) (both (a_text 500 (omega arith)) (both (a_text 500 (omega arith))
+    (both (a_text 35 (omega arith)) (both (a_text 3 (omega arith)) (both (a_text 262144 (omega arith)) a_flag)))))))
+
+story_to : (p : reading.StoryFields) → story_kept.holds p → IsStory (story_of p)
+story_to p h = record {
+  fits = record {
+    urgency = h.1.0.1;
+    slugline = h.1.1.0.0;
+    headline = h.1.1.1.0.0;
+    byline = h.1.1.1.1.0.0;
+    language = h.1.1.1.1.1.0.0;
+    category = h.1.1.1.1.1.1.0.0;
+    body = h.1.1.1.1.1.1.1.0.0;
+  };
+  formed = record {
+    slugline = h.1.1.0.1;
+    headline = h.1.1.1.0.1;
+    byline = h.1.1.1.1.0.1;
+    language = h.1.1.1.1.1.0.1;
+    category = h.1.1.1.1.1.1.0.1;
+    body = h.1.1.1.1.1.1.1.0.1;
+  };
+}
+
+story_back : (s : Story) → IsStory s → (p : reading.StoryFields) × story_kept.holds p × (story_of p ≡ s)
+story_back s h =
+    let f = h.fits in
+    let g = h.formed in (
+      (s.kind, (s.urgency, (s.slugline, (s.headline, (s.byline, (s.language, (s.category, (s.body, s.html)))))))),
+      (tt, ((omega arith, f.urgency), ((f.slugline, g.slugline), ((f.headline, g.headline), ((f.byline, g.byline), ((f.language, g.language), ((f.category, g.category), ((f.body, g.body), tt)))))))),
+      refl,
+    )
+
+pub story_lawful : Lawful reading.story IsStory
+unfolding story_at
+story_lawful = via story_fields story_kept.holds reading.story IsStory story_of story_kept.law (λ bytes. refl) (λ p h. (story_to p h, refl)) story_back
+
+-- ---- what providers send
+
+pub record IsIncoming (i : Incoming) : Type 0 where
+  pub fits : FitsIncoming i
+  pub formed : IsFormedIncoming i
+
+abbrev incoming_kept : Kept reading.IncomingFields
+incoming_kept = both (a_text 256 (omega arith)) (both a_moment (both a_moment (both (kept reading.status Any status_lawful) (kept reading.story IsStory story_lawful))))
+
+incoming_to : (p : reading.IncomingFields) → incoming_kept.holds p → IsIncoming (incoming_of p)
+incoming_to p h = record {
+  fits = record { identity = h.0.0; created = h.1.0; embargo = h.1.1.0; story = h.1.1.1.1.fits };
+  formed = record { identity = h.0.1; story = h.1.1.1.1.formed };
+}
+
+incoming_back : (i : Incoming) → IsIncoming i → (p : reading.IncomingFields) × incoming_kept.holds p × (incoming_of p ≡ i)
+incoming_back i h =
+    let f = h.fits in
+    let g = h.formed in
+    ((i.identity, (i.created, (i.embargo, (i.status, i.story)))), ((f.identity, g.identity), (f.created, (f.embargo, (tt, record { fits = f.story; formed = g.story })))), refl)
+
+pub incoming_lawful : Lawful reading.incoming IsIncoming
+unfolding incoming_at
+incoming_lawful = via incoming_fields incoming_kept.holds reading.incoming IsIncoming incoming_of incoming_kept.law (λ bytes. refl) (λ p h. (incoming_to p h, refl)) incoming_back
+
+-- ---- statements, places and rules
+
+pub record IsStatement (s : Statement) : Type 0 where
+  pub fits : FitsStatement s
+  pub formed : IsFormedStatement s
+
+abbrev statement_kept : Kept (List (List ℕ) × List (List ℕ))
+statement_kept = both (some_names 16 (omega arith)) (some_names 8 (omega arith))
+
+pub statement_lawful : Lawful reading.statement IsStatement
+unfolding statement_at
+statement_lawful =
+    via statement_fields statement_kept.holds reading.statement IsStatement (λ p. record { conditions = p.0; filters = p.1 }) statement_kept.law (λ bytes. refl)
+    (λ p h. (record { fits = record { conditions = h.0.0; filters = h.1.0 }; formed = record { conditions = h.0.1; filters = h.1.1 } }, refl))
+    (λ s h. ((s.conditions, s.filters), ((h.fits.conditions, h.formed.conditions), (h.fits.filters, h.formed.filters)), refl))
+
+pub place_lawful : Lawful reading.place IsFormedPlace
+unfolding place_at
+place_lawful =
+    via (pair name name) (λ p. IsName p.0 × IsName p.1) reading.place IsFormedPlace (λ p. record { desk = p.0; stage = p.1 }) (pair_lawful name IsName name IsName name_lawful name_lawful) (λ bytes. refl)
+    (λ p h. (record { desk = h.0; stage = h.1 }, refl)) (λ p h. ((p.desk, p.stage), (h.desk, h.stage), refl))
+
+pub record IsRule (r : Rule) : Type 0 where
+  pub fits : FitsRule r
+  pub formed : IsFormedRule r
+
+abbrev rule_kept : Kept reading.RuleFields
+rule_kept = both (maybe a_name) (both (a_byte 127) (both a_number (both a_number (both (a_text 64 (omega arith)) (both (maybe (kept reading.place IsFormedPlace place_lawful)) (both a_flag a_flag))))))
+
+rule_to : (p : reading.RuleFields) → rule_kept.holds p → IsRule (rule_of p)
+rule_to p h =
+    let days : p.1.0 < 128 = omega (arith, h.1.0.1) in
+    record {
+      fits = record { days = days; zone = h.1.1.1.1.0.0 };
+      formed = record { filter = h.0; from = h.1.1.0; to = h.1.1.1.0; zone = h.1.1.1.1.0.1; fetch = h.1.1.1.1.1.0 };
+    }
+
+rule_back : (r : Rule) → IsRule r → (p : reading.RuleFields) × rule_kept.holds p × (rule_of p ≡ r)
+rule_back r h =
+    let f = h.fits in
+    let g = h.formed in
+    let days : r.days ≤ 127 = omega (arith, f.days) in
+    ((r.filter, (r.days, (r.from, (r.to, (r.zone, (r.fetch, (r.publish, r.exit))))))), (g.filter, ((omega arith, days), (g.from, (g.to, ((f.zone, g.zone), (g.fetch, (tt, tt))))))), refl)
+
+pub rule_lawful : Lawful reading.rule IsRule
+unfolding rule_at
+rule_lawful = via rule_fields rule_kept.holds reading.rule IsRule rule_of rule_kept.law (λ bytes. refl) (λ p h. (rule_to p h, refl)) rule_back

@@ -1,0 +1,84 @@
+-- The limits on what an entry holds.
+use Rattle.std.specs.Prelude.{ℕ, ◌<◌, ◌≤◌, List, length, All}
+use Rattle.news_types.specs.declared.story.Story.{Story}
+use Rattle.news_types.specs.declared.story.Incoming.{Incoming}
+use Rattle.news_types.specs.declared.rules.Statement.{Statement}
+use Rattle.news_types.specs.declared.rules.Rule.{Rule}
+use Rattle.news_types.specs.declared.command.Command.{Command}
+use Rattle.news_types.specs.declared.command.Command.TheVariants.{AddUser, SetUser, AddCondition, AddFilter, SetFilter, AddSubscriber, SetSubscriber, AddScheme, Create, Flash, Edit, Publish, Correct, Kill, Recall}
+use Rattle.news_types.specs.declared.entry.Act.{Act}
+use Rattle.news_types.specs.declared.entry.Act.TheVariants.{Ingest, Request}
+use Rattle.news_types.specs.declared.entry.Entry.{Entry}
+use Rattle.byte_formats.specs.Spelling.{IsOption}
+
+-- before the year 10000
+abbrev pub IsMoment : ℕ → Type 0
+IsMoment m = m < 253402300800
+
+pub record FitsStory (s : Story) : Type 0 where
+  pub urgency : s.urgency ≤ 9
+  pub slugline : length s.slugline ≤ 500
+  pub headline : length s.headline ≤ 500
+  pub byline : length s.byline ≤ 500
+  pub language : length s.language ≤ 35
+  pub category : length s.category ≤ 3
+  pub body : length s.body ≤ 262144
+
+pub record FitsIncoming (i : Incoming) : Type 0 where
+  pub identity : length i.identity ≤ 256
+  pub created : IsMoment i.created
+  pub embargo : IsMoment i.embargo
+  pub story : FitsStory i.story
+
+-- the values of a condition
+pub record FitsValues (values : List (List ℕ)) : Type 0 where
+  pub few : length values ≤ 64
+  pub short : All (λ v. length v ≤ 500) values
+
+pub record FitsStatement (s : Statement) : Type 0 where
+  pub conditions : length s.conditions ≤ 16
+  pub filters : length s.filters ≤ 8
+
+-- the statements of a filter
+pub record FitsStatements (statements : List Statement) : Type 0 where
+  pub few : length statements ≤ 16
+  pub each : All FitsStatement statements
+
+-- the bits of the days are Monday to Sunday
+pub record FitsRule (r : Rule) : Type 0 where
+  pub days : r.days < 128
+  pub zone : length r.zone ≤ 64
+
+-- the rules of a scheme
+pub record FitsScheme (rules : List Rule) : Type 0 where
+  pub few : length rules ≤ 64
+  pub each : All FitsRule rules
+
+-- Privileges are ten bits.
+abbrev pub FitsCommand : Command → Type 0
+FitsCommand (AddUser user privileges) = privileges.bits < 1024
+FitsCommand (SetUser user privileges) = privileges.bits < 1024
+FitsCommand (AddCondition condition field op values) = FitsValues values
+FitsCommand (AddFilter filter statements) = FitsStatements statements
+FitsCommand (SetFilter filter statements) = FitsStatements statements
+FitsCommand (AddSubscriber subscriber format products) = length products ≤ 64
+FitsCommand (SetSubscriber subscriber active products off) = (length products ≤ 64) × (length off ≤ 64)
+FitsCommand (AddScheme scheme rules) = FitsScheme rules
+FitsCommand (Create desk told) = FitsStory told
+FitsCommand (Flash told targets) = FitsStory told × (length targets ≤ 256)
+FitsCommand (Edit item session told) = FitsStory told
+FitsCommand (Publish item session schedule embargo targets) = IsOption IsMoment schedule × IsOption IsMoment embargo × (length targets ≤ 256)
+FitsCommand (Correct item session told) = FitsStory told
+FitsCommand (Kill item session note) = length note ≤ 262144
+FitsCommand (Recall item session note) = length note ≤ 262144
+FitsCommand _ = Unit {0}
+
+abbrev pub FitsAct : Act → Type 0
+FitsAct (Ingest provider brought) = FitsIncoming brought
+FitsAct (Request caller number asked) = FitsCommand asked
+FitsAct _ = Unit {0}
+
+-- The entry is within the limits.
+pub record Fits (e : Entry) : Type 0 where
+  pub moment : IsMoment e.moment
+  pub act : FitsAct e.act

@@ -1,0 +1,6 @@
+pub mod Spelling
+pub mod Fits
+pub mod Formed
+pub mod Reading
+pub mod Commands
+pub mod Answers

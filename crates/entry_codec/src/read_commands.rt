@@ -1,0 +1,192 @@
+//! Reading commands, eight tags at a time.
+
+ghost use Rattle.std.specs.Prelude.{◌≡◌};
+ghost use Rattle.byte_formats.specs.Gives.{Gives};
+ghost use Rattle.entry_codec.specs.Commands.{command_at, desk_command_at, feed_command_at, draft_command_at, release_command_at};
+
+use crate::field::{list, names, option};
+use crate::story::story;
+use crate::words::{feed_format, field, how, op, privileges};
+use byte_formats::{Input, Stopped};
+use news_types::{Command, Scheme, Statements, Texts};
+use std::alloc::Global;
+
+/// Reads a command behind its tag.
+#[tactic(auto, unfolding(crate::specs::Commands::command_at))]
+pub fn command(alloc: Global, input: &mut Input) -> Result<Command, Stopped>
+    ensures { Gives result input.new (command_at input.old) }
+{
+    let tag = input.byte(1, 32)?;
+    match tag {
+        0..=8 => desk_command(alloc, input, tag),
+        9..=16 => feed_command(alloc, input, tag),
+        17..=24 => draft_command(alloc, input, tag),
+        _ => release_command(alloc, input, tag),
+    }
+}
+
+/// Those of users, desks, conditions and filters.
+#[tactic(auto, unfolding(crate::specs::Commands::desk_command_at))]
+fn desk_command(alloc: Global, input: &mut Input, tag: u8) -> Result<Command, Stopped>
+    ensures { Gives result input.new (desk_command_at tag input.old) }
+{
+    match tag {
+        1 => Ok(Command::AddUser {
+            user: input.name()?,
+            privileges: privileges(input)?,
+        }),
+        2 => Ok(Command::SetUser {
+            user: input.name()?,
+            privileges: privileges(input)?,
+        }),
+        3 => Ok(Command::AddDesk {
+            desk: input.name()?,
+        }),
+        4 => Ok(Command::AddStage {
+            desk: input.name()?,
+            stage: input.name()?,
+        }),
+        5 => Ok(Command::SetMember {
+            desk: input.name()?,
+            user: input.name()?,
+            member: input.flag()?,
+        }),
+        6 => Ok(Command::AddCondition {
+            condition: input.name()?,
+            field: field(input)?,
+            op: op(input)?,
+            values: Texts::of(list(alloc, input, 64)?),
+        }),
+        7 => Ok(Command::AddFilter {
+            filter: input.name()?,
+            statements: Statements::of(list(alloc, input, 16)?),
+        }),
+        _ => Ok(Command::SetFilter {
+            filter: input.name()?,
+            statements: Statements::of(list(alloc, input, 16)?),
+        }),
+    }
+}
+
+/// Those of blocks, products, subscribers, schemes and providers.
+#[tactic(auto, unfolding(crate::specs::Commands::feed_command_at))]
+fn feed_command(alloc: Global, input: &mut Input, tag: u8) -> Result<Command, Stopped>
+    ensures { Gives result input.new (feed_command_at tag input.old) }
+{
+    match tag {
+        9 => Ok(Command::SetBlock {
+            filter: input.name()?,
+            on: input.flag()?,
+        }),
+        10 => Ok(Command::AddProduct {
+            product: input.name()?,
+            how: how(input)?,
+            filter: option(alloc, input)?,
+        }),
+        11 => Ok(Command::SetProduct {
+            product: input.name()?,
+            how: how(input)?,
+            filter: option(alloc, input)?,
+        }),
+        12 => Ok(Command::AddSubscriber {
+            subscriber: input.name()?,
+            format: feed_format(input)?,
+            products: names(alloc, input, 64)?,
+        }),
+        13 => Ok(Command::SetSubscriber {
+            subscriber: input.name()?,
+            active: input.flag()?,
+            products: names(alloc, input, 64)?,
+            off: names(alloc, input, 64)?,
+        }),
+        14 => Ok(Command::Resume {
+            subscriber: input.name()?,
+        }),
+        15 => Ok(Command::AddScheme {
+            scheme: input.name()?,
+            rules: Scheme::of(list(alloc, input, 64)?),
+        }),
+        _ => Ok(Command::AddProvider {
+            provider: input.name()?,
+            scheme: option(alloc, input)?,
+        }),
+    }
+}
+
+/// Those of items that are written and held.
+#[tactic(auto, unfolding(crate::specs::Commands::draft_command_at))]
+fn draft_command(alloc: Global, input: &mut Input, tag: u8) -> Result<Command, Stopped>
+    ensures { Gives result input.new (draft_command_at tag input.old) }
+{
+    match tag {
+        17 => Ok(Command::Create {
+            desk: input.name()?,
+            story: story(alloc, input)?,
+        }),
+        18 => Ok(Command::Flash {
+            story: story(alloc, input)?,
+            targets: names(alloc, input, 256)?,
+        }),
+        19 => Ok(Command::Lock {
+            item: input.u32()?,
+            session: input.name()?,
+        }),
+        20 => Ok(Command::Unlock {
+            item: input.u32()?,
+            session: input.name()?,
+        }),
+        21 => Ok(Command::BreakLock { item: input.u32()? }),
+        22 => Ok(Command::Edit {
+            item: input.u32()?,
+            session: input.name()?,
+            story: story(alloc, input)?,
+        }),
+        23 => Ok(Command::MoveTo {
+            item: input.u32()?,
+            desk: input.name()?,
+            stage: input.name()?,
+        }),
+        _ => Ok(Command::Spike { item: input.u32()? }),
+    }
+}
+
+/// Those of items that are placed and published, and stopping.
+#[tactic(auto, unfolding(crate::specs::Commands::release_command_at))]
+fn release_command(alloc: Global, input: &mut Input, tag: u8) -> Result<Command, Stopped>
+    ensures { Gives result input.new (release_command_at tag input.old) }
+{
+    match tag {
+        25 => Ok(Command::Unspike {
+            item: input.u32()?,
+            desk: input.name()?,
+        }),
+        26 => Ok(Command::Fetch {
+            item: input.u32()?,
+            desk: input.name()?,
+        }),
+        27 => Ok(Command::Publish {
+            item: input.u32()?,
+            session: input.name()?,
+            schedule: option(alloc, input)?,
+            embargo: option(alloc, input)?,
+            targets: names(alloc, input, 256)?,
+        }),
+        28 => Ok(Command::Correct {
+            item: input.u32()?,
+            session: input.name()?,
+            story: story(alloc, input)?,
+        }),
+        29 => Ok(Command::Kill {
+            item: input.u32()?,
+            session: input.name()?,
+            note: input.text(alloc, 262144)?,
+        }),
+        30 => Ok(Command::Recall {
+            item: input.u32()?,
+            session: input.name()?,
+            note: input.text(alloc, 262144)?,
+        }),
+        31 => Ok(Command::Deschedule { item: input.u32()? }),
+        _ => Ok(Command::Stop),
+    }
+}
