@@ -1,0 +1,15 @@
+pub mod Putting
+pub mod Entries
+pub mod Ascending
+pub mod Order
+pub mod Moments
+pub mod ByName
+pub mod Many
+pub mod TurnOrder
+pub mod InTurn
+pub mod OneFeed
+pub mod Turning
+pub mod Withdrawal
+pub mod AllFeeds
+pub mod Choosing
+pub mod Chosen

@@ -1,0 +1,18 @@
+use Rattle.std.proofs.Common.{◌≡◌}
+use Rattle.std.specs.VecDeque.{deque_len}
+use Rattle.publish_queue.specs.Rows.{moved, left}
+use Rattle.publish_queue.specs.Steps.{SameDelivery, FitsOneMore}
+use Rattle.publish_queue.proofs.feed.Feed.advance.Given as goal
+
+-- what is moved so far and what is left to move give the whole
+abbrev pub invariant-loop-release : goal.invariant-loop-release
+invariant-loop-release l = record {
+  delivery : SameDelivery l.fn.self l.self;
+  row : moved l.moment l.self.row.items l.self.waiting.releases.items ≡ moved l.moment l.fn.self.row.items l.fn.self.waiting.releases.items;
+  waiting : left l.moment l.self.waiting.releases.items ≡ left l.moment l.fn.self.waiting.releases.items;
+  turn : l.self.turn ≡ l.fn.self.turn;
+  fits : FitsOneMore l.fn.self → FitsOneMore l.self;
+}
+
+abbrev pub decreases-loop-release : goal.decreases-loop-release
+decreases-loop-release l = deque_len l.self.waiting.releases

@@ -1,0 +1,27 @@
+use Rattle.std.proofs.Common.{◌≡◌, true, length, get_or, refl, sym, ap, ◌∙◌}
+use Rattle.std.specs.Prelude.{map}
+use Rattle.std.proofs.lemmas.List.{length-map}
+use Rattle.news_types.specs.Names.{is_in}
+use Rattle.news_types.specs.Feeds.{feed_of, waiting_of}
+use Rattle.publish_queue.specs.declared.feed.Feed.{Feed}
+use Rattle.publish_queue.specs.Keeps.{number_of, release_of}
+use Rattle.publish_queue.proofs.ByName.{present}
+use Rattle.publish_queue.proofs.AllFeeds.{feed_at}
+use Rattle.publish_queue.proofs.queue.Queue.facts.Goals as goal
+
+pub returns : goal.returns
+returns c names ps m acked tries tried keeps =
+    let s = c.args.subscriber.now in
+    let q = c.args.self.now in
+    let f = c.index-feed.result.now in
+    let found = rw c.deref.ensures.value at c.in_ok-at.ensures.found c.args.self.now.ascends in
+    let there : is_in s names ≡ true = sym (keeps.subscribed s) ∙ present s q.names.items c.in_ok-at.at s found.0 (found.1 s) in
+    let feed = feed_at ps m q.names.items q.feeds.items c.in_ok-at.at s f c.args.self.now.named found keeps.feeds in
+    let same : f ≡ get_or q.feeds.items c.in_ok-at.at f = c.index-feed.ensures in
+    let row : f.row.items ≡ map number_of (feed_of ps m s) = ap (λ (g : Feed). g.row.items) same ∙ feed.1.rows.row ∙ ap (λ t. map number_of (feed_of ps m t)) feed.0 in
+    let waits : f.waiting.releases.items ≡ map release_of (waiting_of ps m s) = ap (λ (g : Feed). g.waiting.releases.items) same ∙ feed.1.rows.waiting ∙ ap (λ t. map release_of (waiting_of ps m t)) feed.0 in
+    let length_is : c.len.result ≡ length (feed_of ps m s) = c.len.ensures ∙ f.row.ok.0 ∙ ap length row ∙ length-map (feed_of ps m s) number_of in
+    let waits_are : c.len-2.result ≡ length (waiting_of ps m s) = c.len-2.ensures ∙ f.waiting.releases.ok.0 ∙ ap length waits ∙ length-map (waiting_of ps m s) release_of in
+    let acked_is : f.delivery.acked ≡ acked s = ap (λ (g : Feed). g.delivery.acked) same ∙ feed.1.stands.receipt ∙ ap acked feed.0 in
+    let tries_are : f.delivery.tries ≡ tries s = ap (λ (g : Feed). g.delivery.tries) same ∙ feed.1.stands.attempts ∙ ap tries feed.0 in
+    rw (there, length_is, waits_are, acked_is, tries_are) refl

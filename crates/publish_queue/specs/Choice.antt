@@ -1,0 +1,62 @@
+-- Which feed is pushed next, by the facts of a queue.
+use Rattle.std.specs.Prelude.{ℕ, ◌+◌, min, Bool, not, ◌&&◌, nat_le, List, [], ◌∷◌, slice_get, filter_map, if◌then◌else◌, Option, Some, None, option_map}
+use Rattle.news_types.specs.declared.query.Ready.{Ready}
+use Rattle.news_types.specs.declared.query.Ready.TheVariants.{Now, Later}
+use Rattle.news_types.specs.Names.{Bytes, is_in}
+use Rattle.news_types.specs.Publications.{Pub}
+use Rattle.news_types.specs.Feeds.{feed_of, waiting_of}
+use Rattle.news_types.specs.Delivery.{Candidate, candidate, earliest, is_by, pauses, first_release, or_else}
+use Rattle.publish_queue.specs.declared.turns.Turn.{Turn}
+use Rattle.publish_queue.specs.Keeps.{turn_of}
+
+abbrev pub ready_candidate_of : List Bytes → List Pub → ℕ → (Bytes → ℕ) → (Bytes → ℕ) → (Bytes → ℕ) → ℕ → Bytes → Option Candidate
+ready_candidate_of names ps m acked tries tried at s =
+    if is_in s names && is_by at (turn_of ps m acked tries tried s)
+    then option_map (candidate s) (turn_of ps m acked tries tried s)
+    else None
+
+abbrev pub is_paused_of : List Pub → ℕ → (Bytes → ℕ) → (Bytes → ℕ) → Bytes → Bool
+is_paused_of ps m acked tries s = pauses (slice_get (feed_of ps m s) (acked s)) (tries s)
+
+abbrev pub later_candidate_of : List Bytes → List Pub → ℕ → (Bytes → ℕ) → (Bytes → ℕ) → (Bytes → ℕ) → Bytes → Option Candidate
+later_candidate_of names ps m acked tries tried s =
+    if is_in s names && not (is_paused_of ps m acked tries s)
+    then option_map (candidate s) (or_else (turn_of ps m acked tries tried s) (first_release (waiting_of ps m s)))
+    else None
+
+abbrev pub moment_of_candidate : Candidate → ℕ
+moment_of_candidate found = found.at
+
+abbrev pub chosen_of : List Bytes → List Pub → ℕ → (Bytes → ℕ) → (Bytes → ℕ) → (Bytes → ℕ) → Option Candidate → List Bytes → Ready
+chosen_of names ps m acked tries tried (Some found) asked = Now found.name (acked found.name + 1)
+chosen_of names ps m acked tries tried None asked = Later (option_map moment_of_candidate (earliest (filter_map (later_candidate_of names ps m acked tries tried) asked)))
+
+-- the ready one among those that are asked for with the least moment, then the least name; or the least moment at which
+-- one may be ready
+abbrev pub choice_of : List Bytes → List Pub → ℕ → (Bytes → ℕ) → (Bytes → ℕ) → (Bytes → ℕ) → List Bytes → ℕ → Ready
+choice_of names ps m acked tries tried asked at =
+    chosen_of names ps m acked tries tried (earliest (filter_map (ready_candidate_of names ps m acked tries tried at) asked)) asked
+
+-- ---- in turn
+
+-- the first turn, up to the moment, of one of these
+abbrev pub first_among : List Bytes → ℕ → List Turn → Option Turn
+first_among asked m [] = None
+first_among asked m (t ∷ ts) = if nat_le t.moment m then (if is_in t.name asked then Some t else first_among asked m ts) else None
+
+abbrev pub candidate_at : Turn → Candidate
+candidate_at t = candidate t.name t.moment
+
+-- the earlier moment, if any
+abbrev pub sooner : Option ℕ → Option ℕ → Option ℕ
+sooner None b = b
+sooner (Some a) None = Some a
+sooner (Some a) (Some b) = Some (min a b)
+
+-- the least moment of these
+abbrev pub soonest : (Bytes → Option ℕ) → List Bytes → Option ℕ
+soonest moment [] = None
+soonest moment (s ∷ ss) = sooner (moment s) (soonest moment ss)
+
+abbrev pub later_moment_of : List Bytes → List Pub → ℕ → (Bytes → ℕ) → (Bytes → ℕ) → (Bytes → ℕ) → Bytes → Option ℕ
+later_moment_of names ps m acked tries tried s = option_map moment_of_candidate (later_candidate_of names ps m acked tries tried s)

@@ -1,0 +1,9 @@
+pub mod Rows
+pub mod Order
+pub mod Ready
+pub mod Steps
+pub mod Turns
+pub mod Many
+pub mod Keeps
+pub mod Facts
+pub mod Choice

@@ -1,0 +1,80 @@
+-- What a call does to several feeds.
+use Rattle.std.specs.Prelude.{◌≡◌, ℕ, ◌+◌, ◌<◌, ◌≤◌, true, false, List, [], ◌∷◌, length, slice_index_or, if◌then◌else◌, Option, None, vec_len, vec_capacity}
+use Rattle.news_types.specs.Names.{Bytes, same, is_in}
+use Rattle.publish_queue.specs.declared.feed.Delivery.{Delivery}
+use Rattle.publish_queue.specs.declared.feed.Feed.{Feed}
+use Rattle.publish_queue.specs.declared.waiting.Release.{Release}
+use Rattle.publish_queue.specs.declared.turns.Turns.{Turns}
+use Rattle.publish_queue.specs.Rows.{Rising}
+use Rattle.publish_queue.specs.Steps.{IsAlike, IsAdded, IsAdvanced, IsDelivered, FitsOneMore}
+use Rattle.publish_queue.specs.Ready.{NumbersAscend, row_turn}
+use Rattle.publish_queue.specs.Turns.{HoldsTurns, one}
+
+abbrev pub name_of : Feed → Bytes
+name_of f = f.name
+
+-- one more publication that is due to these fits the feed
+abbrev pub IsRoomy : List Bytes → Feed → Type 0
+IsRoomy due f = is_in f.name due ≡ true → FitsOneMore f
+
+-- the feed at a place is changed, and no other
+pub record Sets (R : Feed → Feed → Type 0) (i : ℕ) (olds news : List Feed) : Type 0 where
+  pub long : length news ≡ length olds
+  pub here : (d : Feed) → R (slice_index_or olds i d) (slice_index_or news i d)
+  pub there : (k : ℕ) (d : Feed) → (k ≡ i → ⊥) → slice_index_or news k d ≡ slice_index_or olds k d
+
+-- each feed is changed
+pub record EachGoes (R : Feed → Feed → Type 0) (olds news : List Feed) : Type 0 where
+  pub long : length news ≡ length olds
+  pub each : (k : ℕ) (d : Feed) → k < length olds → R (slice_index_or olds k d) (slice_index_or news k d)
+
+-- the feeds of these subscribers are changed, and no others
+pub record Spread (R : Feed → Feed → Type 0) (due : List Bytes) (olds news : List Feed) : Type 0 where
+  pub long : length news ≡ length olds
+  pub changed : (k : ℕ) (d : Feed) → k < length olds → is_in (slice_index_or olds k d).name due ≡ true → R (slice_index_or olds k d) (slice_index_or news k d)
+  pub kept : (k : ℕ) (d : Feed) → k < length olds → is_in (slice_index_or olds k d).name due ≡ false → slice_index_or news k d ≡ slice_index_or olds k d
+
+-- ---- in the order in which they may be pushed
+
+-- the turn of a subscriber's feed
+abbrev pub turn_in : List Feed → Bytes → Option ℕ
+turn_in [] s = None
+turn_in (f ∷ fs) s = if same f.name s then f.turn else turn_in fs s
+
+-- how many have a turn
+abbrev pub turn_count : List Feed → ℕ
+turn_count [] = 0
+turn_count (f ∷ fs) = one f.turn + turn_count fs
+
+-- the turns are those of the feeds, and there is room for one of each
+pub record IsOrdered (fs : List Feed) (turns : Turns) : Type 0 where
+  pub holds : HoldsTurns turns (turn_in fs)
+  pub count : vec_len turns.turns ≡ turn_count fs
+  pub room : length fs ≤ vec_capacity turns.turns
+
+-- the feed stands where it belongs among those that may be pushed
+pub record IsSettled (releases : List Release) (old new : Feed) : Type 0 where
+  pub alike : IsAlike old new
+  pub turn : NumbersAscend releases → new.turn ≡ row_turn releases new
+  pub fits : FitsOneMore old → FitsOneMore new
+
+-- the publication is in the row, or it waits, and the feed stands where it belongs
+pub record IsAddedTo (releases : List Release) (release : Release) (moment : ℕ) (old new : Feed) : Type 0 where
+  pub name : new.name ≡ old.name
+  pub added : Rising old.waiting.releases.items → IsAdded release moment old new
+  pub turn : NumbersAscend releases → new.turn ≡ row_turn releases new
+
+-- what is released is in the row, and the feed stands where it belongs
+pub record IsAdvancedTo (releases : List Release) (moment : ℕ) (old new : Feed) : Type 0 where
+  pub advanced : IsAdvanced moment old new
+  pub turn : NumbersAscend releases → old.turn ≡ row_turn releases old → new.turn ≡ row_turn releases new
+
+-- its delivery stands otherwise, and the feed stands where it belongs
+pub record IsDeliveredTo (releases : List Release) (delivery : Delivery) (old new : Feed) : Type 0 where
+  pub delivered : IsDelivered delivery old new
+  pub turn : NumbersAscend releases → new.turn ≡ row_turn releases new
+
+-- the same feed, as far as it counts
+pub record IsSame (old new : Feed) : Type 0 where
+  pub alike : IsAlike old new
+  pub turn : new.turn ≡ old.turn

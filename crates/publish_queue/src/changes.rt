@@ -1,0 +1,137 @@
+//! What changes one feed.
+ghost use Rattle.std.specs.Prelude.{◌≡◌, OnOk};
+ghost use Rattle.std.specs.Bool.{MatchBool};
+ghost use Rattle.publish_queue.specs.Rows.{Rising, FirstIsLater};
+ghost use Rattle.publish_queue.specs.Ready.{NumbersAscend, row_turn, later_by};
+ghost use Rattle.publish_queue.specs.Steps.{IsEmptyFeed, IsAlike, IsAdvanced, IsAdded, IsWithdrawn, IsDelivered, FitsOneMore};
+
+use crate::feed::{Delivery, Feed};
+use crate::ready::moment_of;
+use crate::waiting::{Release, WaitingList};
+use news_types::{Memory, Moment, Name};
+use release_rules::retry_delay;
+use std::alloc::Global;
+
+impl Feed {
+    /// With nothing in it.
+    pub fn new(alloc: Global, name: Name) -> Feed
+        ensures { IsEmptyFeed name result }
+    {
+        Feed {
+            name,
+            row: Vec::new(alloc),
+            waiting: WaitingList::new(alloc),
+            delivery: Delivery {
+                acked: 0,
+                tries: 0,
+                tried: 0,
+            },
+            turn: None,
+        }
+    }
+
+    /// Takes the memory for one more. A row as long as its entries can be numbered takes no more.
+    pub fn reserve(&mut self) -> Result<(), Memory>
+        ensures alike { IsAlike self.old self.new }
+        ensures turn { self.new.turn ≡ self.old.turn }
+        ensures ok { OnOk result (FitsOneMore self.new) }
+    {
+        let waits = self.waiting.len();
+        if self.row.len() + waits >= u32::MAX as usize {
+            return Err(Memory);
+        }
+        self.row.reserve(waits + 1)?;
+        self.waiting.reserve()?;
+        Ok(())
+    }
+
+    /// Moves those whose release has come to the row.
+    pub fn advance(&mut self, moment: Moment)
+        ensures advanced { IsAdvanced moment self.old self.new }
+        ensures turn { self.new.turn ≡ self.old.turn }
+    {
+        while let Some(release) = self.waiting.take_due(moment) {
+            self.row.push_reserved(release.number);
+        }
+    }
+
+    /// Puts a publication into the row where its release has come, and else among those that wait.
+    pub fn add(&mut self, release: Release, moment: Moment)
+        requires { FitsOneMore self.old }
+        ensures name { self.new.name ≡ self.old.name }
+        ensures added { Rising self.old.waiting.releases.items → IsAdded release moment self.old self.new }
+        ensures turn { self.new.turn ≡ self.old.turn }
+    {
+        if release.moment <= moment {
+            self.row.push_reserved(release.number);
+            return;
+        }
+        self.waiting.add(release);
+    }
+
+    /// Takes a publication out of those that wait.
+    pub fn withdraw(&mut self, number: u32)
+        ensures { IsWithdrawn number self.old self.new }
+    {
+        self.waiting.remove(number);
+    }
+
+    /// Says how its delivery stands.
+    pub fn deliver(&mut self, delivery: Delivery)
+        ensures delivered { IsDelivered delivery self.old self.new }
+        ensures turn { self.new.turn ≡ self.old.turn }
+    {
+        self.delivery = delivery;
+    }
+
+    /// Says under which moment it stands among the feeds that may be pushed.
+    pub fn set_turn(&mut self, turn: Option<Moment>)
+        ensures alike { IsAlike self.old self.new }
+        ensures turn { self.new.turn ≡ turn }
+        ensures fits { FitsOneMore self.old → FitsOneMore self.new }
+    {
+        self.turn = turn;
+    }
+
+    /// Whether something is released at the moment.
+    pub fn is_due(&self, moment: Moment) -> bool
+        ensures { MatchBool result (Unit {0}) (FirstIsLater moment self.now.waiting.releases.items) }
+    {
+        match self.waiting.first() {
+            Some(first) => first.moment <= moment,
+            None => false,
+        }
+    }
+
+    /// When it may be ready: at its turn, or else at the next release that waits for it. Nothing
+    /// where it is paused.
+    pub fn later_moment(&self) -> Option<Moment>
+        ensures { result ≡ later_by self.now }
+    {
+        if self.row.len() > self.delivery.acked as usize && self.delivery.tries == MOST_TRIES {
+            return None;
+        }
+        match self.turn {
+            Some(moment) => Some(moment),
+            None => Some(self.waiting.first()?.moment),
+        }
+    }
+
+    /// When it may be pushed: at the release of the first entry that is not acknowledged, or a
+    /// delay after the last attempt. Nothing where all is acknowledged, or the feed is paused.
+    pub fn ready_at(&self, releases: &[Release]) -> Option<Moment>
+        ensures { NumbersAscend releases.now → result ≡ row_turn releases.now self.now }
+    {
+        let number = *self.row.get(self.delivery.acked as usize)?;
+        if self.delivery.tries == 0 {
+            return moment_of(releases, number);
+        }
+        if self.delivery.tries >= MOST_TRIES {
+            return None;
+        }
+        Some(self.delivery.tried + retry_delay(self.delivery.tries))
+    }
+}
+
+/// A feed is paused behind so many attempts.
+pub const MOST_TRIES: u32 = 10;

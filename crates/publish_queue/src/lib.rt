@@ -1,0 +1,24 @@
+//! The subscribers' feeds as rows that only grow, the publications that wait to be released, and
+//! how the delivery of each feed stands.
+#![tactic(auto)]
+
+mod ask;
+mod changes;
+mod choose;
+mod deliver;
+mod feed;
+mod feeds;
+mod publish;
+mod queue;
+mod ready;
+mod search;
+mod setup;
+mod turns;
+mod waiting;
+
+pub use ask::FeedFacts;
+pub use news_types::Ready;
+pub use queue::Queue;
+
+#[cfg(test)]
+mod tests;
