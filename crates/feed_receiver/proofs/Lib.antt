@@ -1,0 +1,5 @@
+pub mod Written
+pub mod ReceiptLines
+pub mod FirstFrames
+pub mod Numbered
+pub mod Receiving

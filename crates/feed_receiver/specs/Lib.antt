@@ -1,0 +1,8 @@
+pub mod Spelling
+pub mod Fields
+pub mod Formats
+pub mod Reads
+pub mod Laws
+pub mod Feed
+pub mod Takes
+pub mod Holds

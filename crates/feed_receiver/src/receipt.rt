@@ -1,0 +1,67 @@
+//! Receipts: the word `RECEIPT`, the subscriber and how many frames of its feed it holds, each behind
+//! a space, and a line feed.
+
+ghost use Rattle.std.specs.Prelude.{◌≡◌, ℕ, Some, IfSome};
+ghost use Rattle.news_types.specs.Names.{Bytes};
+ghost use Rattle.byte_formats.specs.Gives.{all_of};
+ghost use Rattle.feed_receiver.specs.Fields.{Reads, ReadsAll};
+ghost use Rattle.feed_receiver.specs.Spelling.{receipt_bytes, IsReceipt};
+ghost use Rattle.feed_receiver.specs.Formats.{receipt_at, receipt, receipt_of};
+
+use crate::fields::Fields;
+use crate::line::Line;
+use byte_formats::SmallBytes;
+use news_types::Name;
+
+/// The line that says that the subscriber holds so many frames. It takes no memory.
+pub fn receipt_line(name: &Name, n: u32) -> Line
+    ensures bytes { result ≡ receipt_bytes name.now n }
+    ensures form { IsReceipt name.now n }
+{
+    let mut line: SmallBytes<128> = SmallBytes::new();
+    line.push_slice(b"RECEIPT ");
+    line.push_slice(name.as_bytes());
+    line.push_slice(b" ");
+    line.push_decimal(n);
+    line.push_slice(b"\n");
+    Line { bytes: line }
+}
+
+/// The name and the number of a receipt; nothing where the bytes are not a receipt line, all of
+/// them. It takes no memory.
+pub fn read_receipt(line: &[u8]) -> Option<(Name, u32)>
+    ensures value { result ≡ receipt_of line.now }
+
+    // What is read is so written,
+    ensures found { IfSome result (λ r. IsReceipt r.0 r.1 × (line.now ≡ receipt_bytes r.0 r.1)) }
+
+    // and what is so written is read.
+    ensures only { (name : Bytes) (n : ℕ) → IsReceipt name n → line.now ≡ receipt_bytes name n → result ≡ Some (name, n) }
+{
+    match whole_receipt(line) {
+        Ok(receipt) => Some(receipt),
+        Err(_) => None,
+    }
+}
+
+/// The receipt that all of the bytes are, or else how many bytes are left from the fault on.
+#[tactic(auto, unfolding(byte_formats::specs::Gives::all_of))]
+fn whole_receipt(line: &[u8]) -> Result<(Name, u32), usize>
+    ensures { ReadsAll result (all_of receipt line.now) }
+{
+    let mut fields = Fields::new(line);
+    let receipt = next_receipt(&mut fields)?;
+    let left = fields.left();
+    if left != 0 {
+        return Err(left);
+    }
+    Ok(receipt)
+}
+
+#[tactic(auto, unfolding(crate::specs::Formats::receipt_at))]
+fn next_receipt(fields: &mut Fields) -> Result<(Name, u32), usize>
+    ensures { Reads result fields.new (receipt_at fields.old) }
+{
+    fields.literal(b"RECEIPT ")?;
+    Ok((fields.word()?, fields.decimal(b'\n', 0, u32::MAX)?))
+}
