@@ -86,13 +86,21 @@ abbrev pub feed_bytes : Bytes → ℕ → List FeedRow → List ℕ
 feed_bytes subscriber length rows =
     written (put_text (codes "subscriber") subscriber (put_number (codes "length") length (put (codes "entries") (array (row_items rows)) (answering (codes "feed")))))
 
+-- ---- check
+
+abbrev pub check_bytes : ℕ → ℕ → ℕ → List ℕ
+check_bytes entries moment publications =
+    written (put_number (codes "publications") publications (put_number (codes "moment") moment (put_number (codes "entries") entries (answering (codes "check")))))
+
 -- the answers that have a line so far: an unknown thing is denied
 abbrev pub HasLine : Answer → Type 0
 HasLine (told.Feed subscriber length rows) = Unit {0}
+HasLine (told.Check entries moment publications) = Unit {0}
 HasLine (told.Unknown thing) = Unit {0}
 HasLine _ = ⊥
 
 abbrev pub answer_bytes : Answer → List ℕ
 answer_bytes (told.Feed subscriber length rows) = feed_bytes subscriber length rows
+answer_bytes (told.Check entries moment publications) = check_bytes entries moment publications
 answer_bytes (told.Unknown thing) = denial_bytes (UnknownThing thing)
 answer_bytes _ = []

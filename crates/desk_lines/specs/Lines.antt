@@ -98,7 +98,10 @@ feed d =
     Ok (asked.Query (query.Feed subscriber after))))
 
 abbrev pub question_by : Bytes → Data → Result Asked LineProperty
-question_by text d = if same text (codes "feed") then feed d else Err property.Ask
+question_by text d =
+    if same text (codes "feed") then feed d
+    else (if same text (codes "check") then Ok (asked.Query query.Check)
+    else Err property.Ask)
 
 abbrev pub question : Data → Result Asked LineProperty
 question d = then_read (word property.Ask (get (codes "ask") d)) (λ text. question_by text d)

@@ -135,9 +135,24 @@ pub fn answer_text(alloc: Global, answer: &Answer) -> Result<Bytes, Memory>
             length,
             entries,
         } => feed_text(alloc, subscriber, *length, entries.as_slice()),
+        Answer::Check {
+            entries,
+            moment,
+            publications,
+        } => check_text(alloc, *entries, *moment, *publications),
         Answer::Unknown { thing } => denial_text(alloc, &Denial::UnknownThing { thing: *thing }),
         _ => unreachable!(),
     }
+}
+
+fn check_text(alloc: Global, entries: u64, moment: u64, publications: u32) -> Result<Bytes, Memory>
+    ensures { IfOk result (λ bytes. bytes ≡ said.check_bytes entries moment publications) }
+{
+    let mut members = answering(alloc, "check")?;
+    put_number(&mut members, alloc, "entries", entries)?;
+    put_number(&mut members, alloc, "moment", moment)?;
+    put_number(&mut members, alloc, "publications", publications as u64)?;
+    written(alloc, members)
 }
 
 fn feed_text(

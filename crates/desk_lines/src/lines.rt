@@ -170,6 +170,7 @@ fn question(object: &Value) -> Result<Asked, LineProperty>
     let word = fields::word(object, "ask", LineProperty::Ask)?;
     match word {
         "feed" => feed(object),
+        "check" => Ok(Asked::Query(Query::Check)),
         _ => Err(LineProperty::Ask),
     }
 }

@@ -2,7 +2,8 @@
 use Rattle.std.proofs.Common.{◌<◌, take, ◌≡◌, ◌⊎◌, inl, inr, ⊎_elim, ◌≤◌, ℕ, List, [], ◌++◌, length, Option, Result, Ok, Err, refl, sym, ◌∙◌, ap, subst, arith, append_assoc}
 use Rattle.std.proofs.lemmas.List.{append-nil, take_all, length-append}
 use Rattle.news_io.specs.Faults.{Rose}
-use Rattle.line_run.specs.Life.{Meaning, Life, Wrote, Kept, IsLeft}
+use Rattle.news_io.specs.Left.{IsLeft}
+use Rattle.line_run.specs.Life.{Meaning, Life, Wrote, Kept}
 use Rattle.line_run.specs.Batch.{AnsweredAll, AnsweredSome, after}
 use Rattle.line_run.specs.Run.{IsEnd, Ran, Ends}
 use Rattle.line_run.specs.Status.{number_of, Told, CrashLeaves, IsComplete}

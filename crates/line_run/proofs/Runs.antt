@@ -3,7 +3,8 @@ use Rattle.std.proofs.Common.{◌≡◌, ◌⊎◌, inl, inr, ⊎_elim, ℕ, fal
 use Rattle.std.proofs.lemmas.List.{append-nil}
 use Rattle.news_io.proofs.Readings.{gave_then}
 use Rattle.news_io.proofs.Runs.{elapses_weaker, elapses_then}
-use Rattle.line_run.specs.Life.{Meaning, Life, Wrote, Took, Kept, Between}
+use Rattle.news_io.specs.Left.{Between}
+use Rattle.line_run.specs.Life.{Meaning, Life, Wrote, Took, Kept}
 use Rattle.line_run.specs.Batch.{Turn, after, texts, readings, asked, AllFit, AnsweredAll, NextIs, NextPasses, AnsweredSome}
 use Rattle.line_run.specs.declared.ending.Ending.{Ending}
 use Rattle.line_run.specs.declared.ending.Ending.TheVariants as end

@@ -4,7 +4,8 @@ use Rattle.std.proofs.lemmas.List.{append-nil, length-take, take-append-drop}
 use Rattle.news_io.proofs.Runs.{elapses_same, elapses_weaker}
 use Rattle.line_run.specs.declared.answering.Stopped.{Stopped}
 use Rattle.line_run.specs.declared.answering.Stopped.TheVariants.{Full}
-use Rattle.line_run.specs.Life.{Meaning, Life, Wrote, Took, Kept, Between}
+use Rattle.news_io.specs.Left.{Between}
+use Rattle.line_run.specs.Life.{Meaning, Life, Wrote, Took, Kept}
 use Rattle.line_run.specs.Step.{IsAnswered, IsStopped}
 use Rattle.line_run.specs.Batch.{AnsweredAll, AnsweredSome}
 use Rattle.line_run.specs.declared.ending.Ending.{Ending}

@@ -1,6 +1,7 @@
 -- Lists of what was kept, the newest first, and what stands for one.
-use Rattle.std.specs.Prelude.{◌≡◌, ◌⊎◌, ℕ, Bool, List, ◌∷◌, ◌++◌, Option, Some}
+use Rattle.std.specs.Prelude.{◌≡◌, ℕ, Bool, List, ◌++◌, Option}
 use Rattle.news_io.specs.Clock.{Gave}
+use Rattle.news_io.specs.Left.{Between}
 use Rattle.news_io.specs.Moments.{Elapses}
 
 -- what a member of the input is answered, what follows the list, the newest first, whether one of that would pass the limit, and the readings of the clock
@@ -33,17 +34,6 @@ pub record Wrote {O : Type 0} (tells : O → Type 0) (taken : O → List ℕ) (o
 pub record Took {A : Type 0} (tells : A → Type 0) (ahead : A → ℕ → ℕ) (old new : A) (readings : List ℕ) : Type 0 where
   pub told : tells old → tells new
   pub gave : tells old → Gave (ahead old) readings (ahead new)
-
--- the list, or the list with one in doubt
-abbrev pub IsLeft : {T : Type 0} → List T → (T → Type 0) → Option (List T) → Type 0
-IsLeft {T = T} h D found = (found ≡ Some h) ⊎ ((e : T) × D e × (found ≡ Some (e ∷ h)))
-
--- a crash left the first few of what stands behind h up to g, or these and one in doubt
-pub record Between {T : Type 0} (h g : List T) (D : T → Type 0) (found : Option (List T)) : Type 0 where
-  pub part : List T
-  pub behind : (more : List T) × (part ≡ more ++ h)
-  pub within : (more : List T) × (g ≡ more ++ part)
-  pub left : IsLeft part D found
 
 -- it stood for h and stands for g, and each moment leaves something between
 pub record Kept {T A : Type 0} (L : Life T A) (D : T → Type 0) (old new : A) (h g : List T) : Type 0 where

@@ -1,7 +1,8 @@
 -- The status of a run, with its line and its cause.
 use Rattle.std.specs.Prelude.{◌≡◌, ◌⊎◌, ◌≤◌, ℕ, List, [], ◌∷◌, ◌++◌, length, take, codes, Option, Result, Ok, Err}
 use Rattle.news_io.specs.Faults.{Rose}
-use Rattle.line_run.specs.Life.{Meaning, Life, Wrote, Between, IsLeft}
+use Rattle.news_io.specs.Left.{IsLeft, Between}
+use Rattle.line_run.specs.Life.{Meaning, Life, Wrote}
 use Rattle.line_run.specs.Run.{Ran, Ends}
 use Rattle.line_run.specs.declared.ending.Ending.{Ending}
 use Rattle.line_run.specs.declared.ending.Ending.TheVariants as end

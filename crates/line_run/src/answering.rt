@@ -1,7 +1,8 @@
 // What answers lines, and keeps what they add to its list.
 ghost use Rattle.std.specs.Prelude.{◌≡◌, ℕ, List, Option, option_map};
 ghost use Rattle.input_lines.specs.Lines.{Line};
-ghost use Rattle.line_run.specs.Life.{Meaning, Life, IsLeft};
+ghost use Rattle.news_io.specs.Left.{IsLeft};
+ghost use Rattle.line_run.specs.Life.{Meaning, Life};
 ghost use Rattle.line_run.specs.Step.{IsStep, StepCounts};
 
 /// Why there is no answer.

@@ -34,8 +34,8 @@ fn status_line(why: Ending) -> &'static [u8]
     }
 }
 
-/// Writes the line as far as the output takes it.
-fn tell<O: Sink>(output: &mut O, line: &[u8])
+/// Writes the line as far as the output takes it, and flushes it.
+pub fn tell<O: Sink>(output: &mut O, line: &[u8])
     ensures { Told O.tells O.taken O.faults output.old output.new line.now }
 {
     if line.len() == 0 {

@@ -4,7 +4,7 @@ use Rattle.std.proofs.lemmas.List.{take-append-le, take_all, take_at}
 use Rattle.std.proofs.lemmas.Bool.{cases_lt}
 use Rattle.std.specs.declared.alloc.Global.{Global}
 use Rattle.news_io.specs.Disk.{Torn}
-use Rattle.news_io.specs.Replay.{step, may_hold, left_from, Tells}
+use Rattle.news_io.specs.Replay.{step, StepsTo, may_hold, left_from, Tells}
 use Rattle.news_io.specs.Moments.{Elapses}
 use Rattle.news_io.specs.declared.memory_disk.Event.{Event}
 use Rattle.news_io.specs.declared.memory_disk.Event.TheVariants.{Write, Sync}
@@ -61,3 +61,8 @@ tells_synced first events events' old v is same = record {
 
 pub undone : (events after back : List Event) (e : Event) → after ≡ events ++ e ∷ [] → back ≡ take (length after - 1) after → back ≡ events
 undone events after back e is cut = cut ∙ ap (λ es. take (length es - 1) es) is ∙ take_at events (e ∷ []) (length (events ++ e ∷ []) - 1) (omega (arith, length-append events (e ∷ [])))
+
+-- one event more of which a crash left this
+pub stepped : (P : List ℕ → Type 0) (e : Event) (d c : List ℕ) → P d → StepsTo e d c → step e P c
+stepped P (Write at n) d c holds steps = (d, holds, steps)
+stepped P (Sync bytes) d c holds steps = steps

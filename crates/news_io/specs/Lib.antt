@@ -4,6 +4,7 @@ pub mod Disk
 pub mod Faults
 pub mod Keeper
 pub mod Kept
+pub mod Left
 pub mod Link
 pub mod Moments
 pub mod Replay

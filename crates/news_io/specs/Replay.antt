@@ -11,6 +11,11 @@ abbrev pub step : Event → (List ℕ → Type 0) → List ℕ → Type 0
 step (Write at n) P c = (d : List ℕ) × P d × Torn at n d c
 step (Sync bytes) P c = c ≡ bytes.items
 
+-- one outcome of a crash behind another
+abbrev pub StepsTo : Event → List ℕ → List ℕ → Type 0
+StepsTo (Write at n) d c = Torn at n d c
+StepsTo (Sync bytes) d c = c ≡ bytes.items
+
 -- what a crash may leave after these events
 abbrev pub may_hold : (List ℕ → Type 0) → List Event → List ℕ → Type 0
 may_hold P [] c = P c

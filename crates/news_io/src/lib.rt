@@ -21,6 +21,7 @@ mod std_sink;
 mod std_source;
 #[cfg(test)]
 mod tests;
+mod unreachable_link;
 
 pub use clock::Clock;
 pub use disk::Disk;
@@ -29,7 +30,7 @@ pub use file_disk::FileDisk;
 pub use keeper::{AppendFault, Keeper};
 pub use link::Link;
 pub use memory_clock::MemoryClock;
-pub use memory_disk::MemoryDisk;
+pub use memory_disk::{MemoryDisk, Tear};
 pub use memory_keeper::MemoryKeeper;
 pub use memory_sink::MemorySink;
 pub use memory_source::MemorySource;
@@ -39,3 +40,4 @@ pub use source::Source;
 pub use std_clock::StdClock;
 pub use std_sink::StdSink;
 pub use std_source::StdSource;
+pub use unreachable_link::UnreachableLink;

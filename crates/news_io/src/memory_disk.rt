@@ -1,12 +1,21 @@
 //! A disk in memory, of which a crash may tear each write since the last sync.
 ghost use Rattle.std.specs.Prelude.{◌≡◌, ◌≤◌, ◌<◌, ◌+◌, ◌-◌, ◌++◌, ◌^◌, [], ◌∷◌, List, ℕ, length, take, max, IfOk, OnOk, OnErr};
 ghost use Rattle.news_io.specs.Disk.{Holds, Torn, Only};
-ghost use Rattle.news_io.specs.Replay.{may_hold, left_from, only_last, counts_last, Tells};
+ghost use Rattle.news_io.specs.Replay.{StepsTo, may_hold, left_from, only_last, counts_last, Tells};
 
 use crate::script::Script;
 use crate::{Disk, Failed};
 use news_types::Memory;
 use std::alloc::Global;
+
+/// How a crash tears what was written since the last sync: each write changes the bytes before the place `reach` alone, and of
+/// these the ones before `landed` are as they were written, the others `fill`.
+#[derive(Clone, Copy, Debug, PartialEq, Eq)]
+pub struct Tear {
+    pub landed: u64,
+    pub reach: u64,
+    pub fill: u8,
+}
 
 /// What was done to the disk.
 #[derive(Drop)]
@@ -81,6 +90,28 @@ fn put(bytes: &mut Vec<u8>, at: usize, from: &[u8]) -> Result<(), Memory>
     Ok(())
 }
 
+/// What a torn write of so many bytes at a place leaves of them, where a read would give `seen`.
+fn torn_piece(
+    alloc: Global,
+    seen: &[u8],
+    at: u64,
+    count: u64,
+    tear: Tear,
+) -> Result<Vec<u8>, Memory>
+    ensures short { IfOk result (λ piece. length piece.items ≤ count) }
+    ensures fits { IfOk result (λ piece. at + length piece.items < 2 ^ 64) }
+{
+    let end = at.saturating_add(count).min(tear.reach) as usize;
+    let end = end.min(seen.len());
+    let from = (at as usize).min(end);
+    let mut piece = copy_of(alloc, &seen[from..end])?;
+    let landed = tear.landed.saturating_sub(at) as usize;
+    for byte in piece.iter_mut().skip(landed) {
+        *byte = tear.fill;
+    }
+    Ok(piece)
+}
+
 impl MemoryDisk {
     /// An empty disk.
     pub fn new(alloc: Global) -> MemoryDisk
@@ -134,6 +165,34 @@ impl MemoryDisk {
     {
         self.script = Script::stopped_after(calls, Vec::new(self.alloc));
         self
+    }
+
+    /// What a crash now may leave, where it tears so.
+    pub fn after_crash(&self, tear: Tear) -> Result<Vec<u8>, Memory>
+        ensures left { IfOk result (λ image. ⟦<MemoryDisk as Disk>⟧.may_leave self.now image.items) }
+    {
+        let mut image = copy_of(self.alloc, &self.first)?;
+        for event in &self.events {
+            self.do_again(event, tear, &mut image)?;
+        }
+        Ok(image)
+    }
+
+    // Does to the image what was done to the disk, with each write torn.
+    fn do_again(&self, event: &Event, tear: Tear, image: &mut Vec<u8>) -> Result<(), Memory>
+        ensures step { OnOk result (StepsTo event.now image.old.items image.new.items) }
+    {
+        match event {
+            Event::Sync { bytes } => {
+                *image = copy_of(self.alloc, bytes)?;
+                Ok(())
+            }
+            Event::Write { at, length } => {
+                let piece = torn_piece(self.alloc, &self.bytes, *at, *length, tear)?;
+                put(image, *at as usize, &piece)?;
+                Ok(())
+            }
+        }
     }
 
     /// The bytes that a read gives.

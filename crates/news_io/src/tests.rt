@@ -1,6 +1,7 @@
 //! The doubles and the adapters, each through its trait.
 mod files;
 mod keepers;
+mod links;
 mod streams;
 
 use std::alloc::{AllocError, Global};

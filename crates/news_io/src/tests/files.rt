@@ -1,6 +1,6 @@
 //! Disks.
 use super::numbers;
-use crate::{Disk, Failed, FileDisk, MemoryDisk};
+use crate::{Disk, Failed, FileDisk, MemoryDisk, Tear};
 use std::fs;
 use std::process::Abort;
 use std::test::Fail;
@@ -49,6 +49,47 @@ fn calls_of_a_disk_fail_by_their_numbers(rt: HostRuntime) -> Result<(), Fail> {
     assert_eq!(rt; disk.read(0, &mut back), Err(Failed));
     assert_eq!(rt; disk.fault_count(), 2);
     assert_eq!(rt; disk.as_bytes(), b"newsroom".as_slice());
+    Ok(())
+}
+
+/// Of `newsroom`, over which `desks!` was written from byte 4 on: how a crash tears that, and what it leaves.
+const TORN: [(u64, u64, &[u8]); 7] = [
+    (0, 0, b"newsroom"),
+    (0, 8, b"news----"),
+    (0, 9, b"news-----"),
+    (5, 10, b"newsd-----"),
+    (9, 10, b"newsdesks-"),
+    (9, 9, b"newsdesks"),
+    (20, 20, b"newsdesks!"),
+];
+
+#[test]
+fn a_crash_tears_what_was_not_synced(rt: HostRuntime) -> Result<(), Fail> {
+    let alloc = rt.alloc();
+    let mut disk = MemoryDisk::holding(alloc, b"newsroom")?;
+    assert_eq!(rt; disk.write_at(4, b"desks!"), Ok(()));
+    for (landed, reach, left) in TORN {
+        let tear = Tear {
+            landed,
+            reach,
+            fill: b'-',
+        };
+        assert_eq!(rt;
+            disk.after_crash(tear)?.as_slice(),
+            left,
+            "{landed} {reach}"
+        );
+    }
+    assert_eq!(rt; disk.sync(), Ok(()));
+    let none = Tear {
+        landed: 0,
+        reach: 0,
+        fill: b'-',
+    };
+    assert_eq!(rt;
+        disk.after_crash(none)?.as_slice(),
+        b"newsdesks!".as_slice()
+    );
     Ok(())
 }
 
