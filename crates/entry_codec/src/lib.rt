@@ -17,3 +17,6 @@ pub use law::{one_spelling_law, record_size_law};
 pub use reading::decode;
 pub use small::{SmallRecord, encode_small};
 pub use writing::encode;
+
+#[cfg(test)]
+mod tests;
