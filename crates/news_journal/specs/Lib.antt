@@ -1,0 +1,9 @@
+pub mod Calls
+pub mod Created
+pub mod Damage
+pub mod Law
+pub mod Log
+pub mod Opened
+pub mod Read
+pub mod Stands
+pub mod Window
