@@ -1,0 +1,9 @@
+pub mod Records
+pub mod Lists
+pub mod Crashes
+pub mod Steps
+pub mod Rooms
+pub mod Appends
+pub mod Decisions
+pub mod Legal
+pub mod Openings

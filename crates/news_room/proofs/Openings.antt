@@ -1,0 +1,97 @@
+-- What the records tell, one after the other.
+use Rattle.std.proofs.Common.{◌≡◌, ℕ, suc, ◌<◌, ◌≤◌, ◌+◌, List, [], ◌∷◌, ◌++◌, length, take, drop, get_or, map, slice_get, Ok, Err, inl, inr, refl, sym, ap, subst, ◌∙◌, arith, drop-cons}
+use Rattle.std.specs.Prelude.{Result}
+use Rattle.std.proofs.lemmas.List.{map-append, length-map, length-take-le, take_more, take_all, take-append-drop}
+use Rattle.news_types.specs.declared.entry.Entry.{Entry}
+use Rattle.news_types.specs.Names.{Bytes}
+use Rattle.news_types.specs.History.{History}
+use Rattle.news_io.specs.declared.record.Record.{Record}
+use Rattle.byte_formats.specs.Faults.{IsFaultAt}
+use Rattle.entry_codec.specs.Spelling.{entry_bytes}
+use Rattle.entry_codec.specs.Formed.{IsEntry}
+use Rattle.newsroom.specs.declared.newsroom.Newsroom.{Newsroom}
+use Rattle.news_room.specs.Log.{payloads, IsKept}
+use Rattle.news_room.specs.Stands.{Tells}
+use Rattle.news_room.specs.Opening.{bytes_of, IsFault, HasRead, Takes, Keeps, IsOpened}
+use Rattle.news_room.specs.declared.answers.RoomFault.{RoomFault}
+use Rattle.news_room.specs.declared.room.Room.{Room}
+use Rattle.news_room.proofs.Lists.{counted}
+
+-- ---- one record
+
+pub no_entry_told : (n : Newsroom) (h : History) (r : Record) (payload : Bytes) (place : ℕ) (fault : RoomFault) → payload ≡ r.bytes → IsFaultAt entry_bytes IsEntry payload place
+    → fault ≡ RoomFault.Damaged (r.at + 5 + place) (slice_get r.bytes place) → Takes n h r (Err fault)
+no_entry_told n h r payload place fault same wrong is =
+    subst (λ (f : RoomFault). Takes n h r (Err f)) (sym is) (inl (record {
+      place = place;
+      fault = subst (λ (b : Bytes). IsFaultAt entry_bytes IsEntry b place) same wrong;
+      at_is = refl;
+      found_is = refl;
+    }))
+
+pub entry_told : (n : Newsroom) (h : History) (r : Record) (payload : Bytes) (e : Entry) (kept : Result (Unit {0}) RoomFault) → payload ≡ r.bytes → IsEntry e → payload ≡ entry_bytes e
+    → IsKept h → Keeps n h r.at e kept → Takes n h r kept
+entry_told n h r payload e (Ok u) same entry is before told =
+    (e, sym same ∙ is, record { legal = told.0; formed = (entry, before.formed); built = (before.built, told.1) }, told.2)
+entry_told n h r payload e (Err (RoomFault.Damaged at found)) same entry is before told = inr (record {
+  next = e;
+  is = sym same ∙ is;
+  entry = entry;
+  unlawful = λ kept. told.unlawful kept.legal kept.built.1;
+  at_is = told.at_is;
+  found_is = told.found_is;
+})
+entry_told n h r payload e (Err RoomFault.Memory) same entry is before told = tt
+
+-- ---- the records so far
+
+module _ (records : List Record) (i : ℕ) where
+  -- those before a place
+  abbrev pub before : List Bytes
+  before = map bytes_of (take i records)
+
+  -- as many entries as records
+  pub as_many : (n : Newsroom) (h : History) → i ≤ length records → HasRead n before h → length h ≡ i
+  as_many n h le read =
+      sym (counted h) ∙ ap length (sym read.opens.is) ∙ length-map (take i records) bytes_of ∙ length-take-le i records le
+
+  module _ (r : Record) (lt : i < length records) (is : r ≡ get_or records i r) where
+    one_more : map bytes_of (take (i + 1) records) ≡ before ++ r.bytes ∷ []
+    one_more =
+        ap (map bytes_of) (take_more records i r lt ∙ ap (λ (x : Record). take i records ++ x ∷ []) (sym is)) ∙ map-append bytes_of (take i records) (r ∷ [])
+
+    pub read_more : (n n' : Newsroom) (h : History) → HasRead n before h → Takes n' h r (Ok tt)
+        → (g : History) × HasRead n' (map bytes_of (take (i + 1) records)) g
+    read_more n n' h read told =
+        let e = told.0 in
+        let next : before ++ r.bytes ∷ [] ≡ payloads h ++ entry_bytes e ∷ [] = ap (λ (l : List Bytes). l ++ r.bytes ∷ []) read.opens.is ∙ ap (λ (b : Bytes). payloads h ++ b ∷ []) told.1 in
+        (e ∷ h, record { opens = record { is = one_more ∙ next; kept = told.2 }; stands = told.3 })
+
+    here : records ≡ take i records ++ r ∷ drop (suc i) records
+    here = sym (take-append-drop i records) ∙ ap (λ (l : List Record). take i records ++ l) (drop-cons records i r lt ∙ ap (λ (x : Record). x ∷ drop (suc i) records) (sym is))
+
+    pub damaged_here : (n n' : Newsroom) (h : History) (fault : RoomFault) → HasRead n before h → Takes n' h r (Err fault) → IsFault records fault
+    damaged_here n n' h (RoomFault.Damaged at found) read told =
+        record { before = take i records; here = r; after = drop (suc i) records; are = here; list = h; opens = read.opens; damage = told }
+    damaged_here n n' h RoomFault.Memory read told = tt
+
+pub read_all : (records : List Record) (i : ℕ) (n : Newsroom) (h : History) → length records ≤ i → HasRead n (map bytes_of (take i records)) h → HasRead n (map bytes_of records) h
+read_all records i n h past read = subst (λ (l : List Record). HasRead n (map bytes_of l) h) (take_all i records past) read
+
+-- ---- the room
+
+module _ {K : Type 0} (used : K → ℕ) (tells : K → Type 0) (list : K → List Bytes) (doubts : K → Bytes → Type 0) where
+  pub opened : (keeper : K) (store : Bytes) (records : List Record) (r : Room K) (h : History) → r.keeper ≡ keeper → r.store ≡ store → length records < 2147483648
+      → HasRead r.machine (map bytes_of records) h → IsOpened used tells list doubts keeper store records r
+  opened keeper store records r h same stored few read = record {
+    keeper_is = same;
+    history = h;
+    opens = read.opens;
+    stands = λ told tells_it. record {
+      store_is = stored;
+      machine_for = read.stands;
+      kept = read.opens.kept;
+      few = omega (arith, few, counted h, ap length read.opens.is, length-map records bytes_of);
+      told = λ t. subst (λ (k : K). Tells used tells list doubts k h) (sym same) (tells_it t);
+    };
+  }

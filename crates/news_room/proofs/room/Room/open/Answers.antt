@@ -1,0 +1,8 @@
+use Rattle.std.proofs.Common.{refl}
+use Rattle.news_room.proofs.Openings.{opened}
+use Rattle.news_room.proofs.room.Room.open.Goals as goal
+
+pub returns-in-Ok : goal.returns-in-Ok
+returns-in-Ok g c =
+    let read = c.in-Ok.ensures in
+    opened g.K.Keeper.used g.K.Keeper.tells g.K.Keeper.list g.K.Keeper.doubts c.args.keeper c.args.store c.args.records.now _ read.0 refl refl c.requires.few read.1
