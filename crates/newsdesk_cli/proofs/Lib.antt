@@ -1,0 +1,6 @@
+pub mod Limits
+pub mod Desks
+pub mod Outputs
+pub mod Stores
+pub mod Commands
+pub mod Identifiers

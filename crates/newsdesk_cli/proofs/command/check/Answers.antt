@@ -1,0 +1,24 @@
+use Rattle.std.proofs.Common.{◌∙◌, inl, inr, false, ap}
+use mathlib.Core.Bool.{false≢true}
+use Rattle.news_journal.specs.Stands.{disk_of}
+use Rattle.newsdesk_cli.proofs.Commands.{some_book}
+use Rattle.newsdesk_cli.proofs.command.check.Goals as goal
+
+pub check_line-status-requires : goal.check_line-status-requires
+check_line-status-requires g c =
+    let d = g.D.Disk in
+    let found = some_book d.tells d.seen d.may_leave d.moment d.left_since g.met.D.Disk.only_now d.faults _ _ _ _ c.args.log c.in-Ok.room c.in-Ok.ensures.opened in
+    (found.0, found.1.1.stands)
+
+pub returns-in-Ok : goal.returns-in-Ok
+returns-in-Ok g c =
+    let room = c.in-Ok.ensures.opened in
+    inr (record {
+      room = c.in-Ok.room;
+      opened = room;
+      same = c.into_disk.ensures ∙ ap disk_of c.into_keeper.ensures;
+      told = c.check_line-status.ensures (record { store = room.store; told = false; list = room.history }) (room.holds false (λ is. absurd (false≢true is))).stands;
+    })
+
+pub returns-in-Err : goal.returns-in-Err
+returns-in-Err g c = inl (record { why = c.in-Err.trouble; refused = c.in-Err.ensures.refused; stopped = c.stop.ensures })

@@ -1,0 +1,11 @@
+use Rattle.std.proofs.Common.{refl}
+use Rattle.newsdesk_cli.proofs.command.do_job.Goals as goal
+
+pub returns-in-Init : goal.returns-in-Init
+returns-in-Init g c = rw c.in-Init.is (record { input_same = refl; clock_same = refl }, c.init.ensures)
+
+pub returns-in-Batch : goal.returns-in-Batch
+returns-in-Batch g c = rw c.in-Batch.is c.batch.ensures
+
+pub returns-in-Check : goal.returns-in-Check
+returns-in-Check g c = rw c.in-Check.is (record { input_same = refl; clock_same = refl }, c.check.ensures)

@@ -1,0 +1,26 @@
+use Rattle.std.proofs.Common.{◌+◌, length, arith, ap}
+use Rattle.news_journal.specs.Stands.{Logs, Doubts, list_of}
+use Rattle.newsdesk_cli.proofs.Stores.{not_room, early, is_room, no_room}
+use Rattle.newsdesk_cli.proofs.store.room_of.Goals as goal
+
+pub returns-in_default-clause-none : goal.returns-in_default-clause-none
+returns-in_default-clause-none g c = (c.into_disk.ensures, not_room c.args.opened.header c.args.opened.records c.in_default.not-Room)
+
+pub open-requires-clause-few : goal.open-requires-clause-few
+open-requires-clause-few g c = omega (arith, ap length c.as_slice.ensures, c.requires.few.count)
+
+pub open-requires-clause-places : goal.open-requires-clause-places
+open-requires-clause-places g c = early c.args.opened.records c.as_slice.result.now c.as_slice.ensures c.requires.few.at
+
+pub returns-in-Ok-clause-room : goal.returns-in-Ok-clause-room
+returns-in-Ok-clause-room g c =
+    let d = g.D.Disk in
+    is_room c.args.opened c.in-Room.store c.as_slice.result.now c.in-Room.is c.as_slice.ensures
+    (λ j. j.gate + 1) (λ j. Logs d.tells d.seen d.may_leave j (list_of d.seen j)) (λ j. list_of d.seen j) (λ j. Doubts d.tells d.seen d.may_leave j (list_of d.seen j))
+    c.in-Ok.room c.in-Ok.ensures
+
+pub returns-clause-none : goal.returns-clause-none
+returns-clause-none g c =
+    let given = c.in-Err.ensures in
+    no_room c.args.opened c.in-Room.store c.as_slice.result.now c.in-Room.is c.as_slice.ensures
+    c.in-Err.journal c.in-Err.fault c.into_disk-in-Err.result c.trouble_of.result c.into_disk-in-Err.ensures c.trouble_of.ensures given.0 given.1

@@ -1,0 +1,9 @@
+pub mod Texts
+pub mod Lines
+pub mod Desk
+pub mod Leaving
+pub mod Batch
+pub mod Command
+pub mod Words
+pub mod Trouble
+pub mod Store

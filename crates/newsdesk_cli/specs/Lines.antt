@@ -1,0 +1,87 @@
+-- What a line of a batch is answered at a list and a reading of the clock, and which entry it adds.
+use Rattle.std.specs.Prelude.{ℕ, ◌+◌, Bool, true, false, nat_lt, IsTrue, List, [], ◌∷◌, Some, None, Result, Ok, Err}
+use Rattle.news_types.specs.declared.entry.Entry.{Entry}
+use Rattle.news_types.specs.declared.command.Command.{Command}
+use Rattle.news_types.specs.Names.{Bytes}
+use Rattle.news_types.specs.History.{History}
+use Rattle.news_types.specs.Outcome.{Answered, Done, Repeat, Denied, request}
+use Rattle.news_types.specs.Outcome as newsroom
+use Rattle.news_types.specs.Answers.{answer}
+use Rattle.input_lines.specs.Lines.{Line}
+use Rattle.line_run.specs.Life.{Outcome, Meaning}
+use Rattle.desk_lines.specs.declared.lines.Asked.{Asked}
+use Rattle.desk_lines.specs.declared.lines.Asked.TheVariants as asked
+use Rattle.desk_lines.specs.declared.property.LineProperty.{LineProperty}
+use Rattle.desk_lines.specs.declared.property.LineProperty.TheVariants as property
+use Rattle.desk_lines.specs.Lines.{line}
+use Rattle.desk_lines.specs.Answers.{reply_bytes, denial_bytes, bad_bytes, answer_bytes}
+use Rattle.entry_codec.specs.Fits.{FitsCommand}
+use Rattle.newsroom.specs.Built.{is_built}
+use Rattle.newsroom.specs.Asking.{IsBuiltQuery}
+use Rattle.news_room.specs.Log.{sizes}
+use Rattle.news_room.specs.Stands.{LIMIT}
+use Rattle.news_room.specs.Steps.{entries}
+
+-- ---- lines
+
+-- the longest line, in bytes without its end, and the most bytes of an input that are answered
+abbrev pub LONGEST_LINE : ℕ
+LONGEST_LINE = 2097152
+
+abbrev pub LONGEST_INPUT : ℕ
+LONGEST_INPUT = 4294967296
+
+-- what a request is answered
+abbrev pub answered_bytes : Answered → Bytes
+answered_bytes (Done reply) = reply_bytes reply false
+answered_bytes (Repeat reply) = reply_bytes reply true
+answered_bytes (Denied denial) = denial_bytes denial
+
+-- whether the record of what would be added passes the limit, in a log that had so many bytes before its first record
+abbrev pub passes : ℕ → History → List Entry → Bool
+passes before h [] = false
+passes before h (e ∷ es) = nat_lt LIMIT (before + sizes (e ∷ h))
+
+-- a bad line adds nothing, and takes no reading
+abbrev pub bad : LineProperty → Outcome Entry
+bad p = record { text = bad_bytes p; adds = []; passes = false; took = [] }
+
+-- an answer that adds this entry, if one
+abbrev pub adding : ℕ → History → ℕ → Bytes → List Entry → Outcome Entry
+adding before h at text more = record { text = text; adds = more; passes = passes before h more; took = at ∷ [] }
+
+-- no line asks for a frame
+abbrev pub no_frames : Bytes → ℕ → Bytes
+no_frames s k = []
+
+abbrev pub of_request : ℕ → History → ℕ → newsroom.Outcome Answered → Outcome Entry
+of_request before h at o = adding before h at (answered_bytes o.answer) (entries o.more)
+
+-- what a line asks for
+abbrev pub of_asked : ℕ → Meaning Entry Asked
+of_asked before h (asked.Request caller number command) at = of_request before h at (request h caller number command at)
+of_asked before h (asked.Query query) at = adding before h at (answer_bytes (answer no_frames h query)) []
+of_asked before h (asked.Receipt subscriber n) at = bad property.Line
+
+-- a line as it is read
+abbrev pub of_read : ℕ → Meaning Entry (Result Asked LineProperty)
+of_read before h (Ok said) at = of_asked before h said at
+of_read before h (Err p) at = bad p
+
+-- a line, or nothing where it is too long
+abbrev pub of_line : ℕ → Meaning Entry Line
+of_line before h None at = bad property.Line
+of_line before h (Some bytes) at = of_read before h (line bytes) at
+
+-- ---- what the room can do of it so far
+
+-- a command that is within the limits and can be done
+pub record IsFit (c : Command) : Type 0 where
+  pub fits : FitsCommand c
+  pub built : IsTrue (is_built c)
+
+-- what is asked can be answered
+abbrev pub CanDo : Asked → Type 0
+CanDo (asked.Request caller number command) = IsFit command
+CanDo (asked.Query query) = IsBuiltQuery query
+CanDo (asked.Receipt subscriber n) = Unit {0}

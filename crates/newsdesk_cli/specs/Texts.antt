@@ -1,0 +1,22 @@
+-- The texts of answers.
+use Rattle.std.specs.Prelude.{◌≡◌, ℕ, true, false, Result, Ok, Err, Vec}
+use Rattle.std.specs.declared.alloc.Global.{Global}
+use Rattle.news_types.specs.Names.{Bytes}
+use Rattle.line_run.specs.declared.answering.Stopped.{Stopped}
+use Rattle.line_run.specs.declared.answering.Stopped.TheVariants as stopped
+use Rattle.news_room.specs.declared.answers.Answered.{Answered}
+use Rattle.desk_lines.specs.Answers.{reply_bytes, denial_bytes}
+
+-- the text, or want of memory for it
+abbrev pub IsText : Bytes → Result (Vec ℕ Global) Stopped → Type 0
+IsText bytes (Ok text) = text.items ≡ bytes
+IsText bytes (Err why) = why ≡ stopped.Memory
+
+-- what a room answered, as a text, or why there is none
+abbrev pub IsAnswerText : Answered → Result (Vec ℕ Global) Stopped → Type 0
+IsAnswerText (Answered.Done reply) text = IsText (reply_bytes reply false) text
+IsAnswerText (Answered.Repeat reply) text = IsText (reply_bytes reply true) text
+IsAnswerText (Answered.Denied denial) text = IsText (denial_bytes denial) text
+IsAnswerText Answered.Fault text = text ≡ Err stopped.Fault
+IsAnswerText (Answered.Full size count) text = text ≡ Err stopped.Full
+IsAnswerText Answered.Memory text = text ≡ Err stopped.Memory

@@ -1,0 +1,28 @@
+//! What the program says of itself.
+
+/// How the program is used, for `--help`.
+pub fn help_text() -> &'static str {
+    "newsdesk: a newsroom server for one news agency
+
+newsdesk init STORE UUID   make an empty log in the file STORE, for the store of this identifier
+newsdesk batch STORE       answer the lines of standard input, one JSON object a line, and keep what they add
+newsdesk check STORE       open the log, and say how many entries and publications it holds
+newsdesk --help            say this
+newsdesk --version         say the version
+
+A line of `batch` is a request, as
+  {\"by\":\"admin\",\"number\":1,\"do\":\"add_subscriber\",\"subscriber\":\"alpha\",\"format\":\"ninjs\",\"products\":[\"all\"]}
+  {\"by\":\"admin\",\"number\":2,\"do\":\"flash\",\"story\":{\"headline\":\"Fire\",\"body\":\"Smoke.\"}}
+or a question, as
+  {\"ask\":\"feed\",\"subscriber\":\"alpha\",\"after\":0}
+
+Exit status: 0 all was answered, 2 usage, 3 wrong store, 4 read fault, 5 write fault, 6 store fault,
+7 damaged log, 8 log full, 9 out of memory, 12 input too long. A status other than 0 and 5 is written
+to the output too, as {\"status\":7} with the place of the damage.
+"
+}
+
+/// The program's name and version, for `--version`.
+pub fn version_text() -> &'static str {
+    "newsdesk 1\n"
+}

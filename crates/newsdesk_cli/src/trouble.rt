@@ -1,0 +1,81 @@
+//! Why a log does not serve.
+ghost use Rattle.std.specs.Prelude.{◌≡◌, ◌≤◌, ◌+◌, ◌++◌, ◌<◌, length, decimal};
+ghost use Rattle.newsdesk_cli.specs.Trouble.{status_of, line_of, byte_or_null};
+
+use byte_formats::SmallBytes;
+use itoa::Buffer;
+
+/// Why a log does not serve.
+#[derive(Clone, Copy, Debug, PartialEq, Eq)]
+pub(crate) enum Trouble {
+    /// The file is empty where a log is wanted, or holds something where none is; or it is no newsroom's log.
+    WrongStore,
+    /// The disk has failed.
+    Store,
+    /// The bytes are no log of a newsroom.
+    Damaged {
+        /// The place that shows it, in bytes from the file's start.
+        at: u64,
+        /// The byte there, or nothing where the file or a payload ends.
+        found: Option<u8>,
+    },
+    /// There was no memory.
+    Memory,
+}
+
+/// The longest line: the words, and two numbers.
+const LINE: usize = 80;
+
+fn push_number(line: &mut SmallBytes<LINE>, number: u64)
+    requires { length line.old + 20 ≤ 80 }
+    ensures bytes { line.new ≡ line.old ++ decimal number }
+    ensures few { length line.new ≤ length line.old + 20 }
+{
+    let mut digits = Buffer::new();
+    line.push_slice(digits.format(number).as_bytes());
+}
+
+fn push_byte_or_null(line: &mut SmallBytes<LINE>, byte: Option<u8>)
+    requires { length line.old + 20 ≤ 80 }
+    ensures bytes { line.new ≡ line.old ++ byte_or_null byte }
+    ensures few { length line.new ≤ length line.old + 20 }
+{
+    match byte {
+        Some(byte) => push_number(line, byte as u64),
+        None => line.push_slice(b"null"),
+    }
+}
+
+impl Trouble {
+    /// The exit status.
+    pub(crate) fn status(self) -> u8
+        ensures { result ≡ status_of self }
+    {
+        match self {
+            Trouble::WrongStore => 3,
+            Trouble::Store => 6,
+            Trouble::Damaged { .. } => 7,
+            Trouble::Memory => 9,
+        }
+    }
+
+    /// The line that is written before the end.
+    pub(crate) fn line(self) -> SmallBytes<LINE>
+        ensures { result ≡ line_of self }
+    {
+        let mut line: SmallBytes<LINE> = SmallBytes::new();
+        match self {
+            Trouble::WrongStore => line.push_slice(b"{\"status\":3}\n"),
+            Trouble::Store => line.push_slice(b"{\"status\":6}\n"),
+            Trouble::Damaged { at, found } => {
+                line.push_slice(b"{\"at\":");
+                push_number(&mut line, at);
+                line.push_slice(b",\"found\":");
+                push_byte_or_null(&mut line, found);
+                line.push_slice(b",\"status\":7}\n");
+            }
+            Trouble::Memory => line.push_slice(b"{\"status\":9}\n"),
+        }
+        line
+    }
+}
