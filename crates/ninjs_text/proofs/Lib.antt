@@ -1,0 +1,4 @@
+mod JsonTexts
+mod Plain
+mod Sizes
+mod Told

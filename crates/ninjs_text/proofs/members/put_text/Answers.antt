@@ -1,0 +1,10 @@
+use Rattle.std.proofs.Common.{ap, ◌∙◌}
+use Rattle.std.proofs.lemmas.Result.{on_ok_weaker}
+use Rattle.serde_json.specs.Written.{has_float, members_have_float}
+use Rattle.serde_json.specs.View.{view, members_view}
+use Rattle.ninjs_text.proofs.Plain.{put_plain}
+use Rattle.ninjs_text.proofs.members.put_text.Goals as goal
+
+pub returns-clause-plain : goal.returns-clause-plain
+returns-clause-plain c hm =
+    on_ok_weaker c.put.result (λ e. ap members_have_float e ∙ put_plain c.args.key.now (view c.in_ok-try_from_str.field-0) (members_view c.args.members.now.entries) (ap has_float c.in_ok-try_from_str.ensures) hm) c.put.ensures.ok

@@ -1,0 +1,5 @@
+pub mod Parts
+pub mod Sizes
+pub mod Runs
+pub mod Ahead
+pub mod Undecided

@@ -1,0 +1,216 @@
+//! The state of reading a wire.
+
+ghost use Rattle.std.specs.Prelude.{◌≡◌, ◌≢◌, ◌+◌, ◌<◌, ◌≤◌, ◌^◌, ℕ, List, [], ◌∷◌, ◌++◌, OnOk, OnErr, IfOk, Some, None, All, length, take, drop};
+ghost use Rattle.text7901.specs.Limits.{FitsFound};
+ghost use Rattle.text7901.specs.declared.phase.Phase.{Phase};
+ghost use Rattle.text7901.specs.Machine.{at_end, EndsIn};
+ghost use Rattle.text7901.specs.State.{IsOpen, ahead_of, closing};
+ghost use Rattle.text7901.specs.Wire.{wire_from};
+
+use crate::bytes::{SOH, place_of};
+use crate::fields::incoming_of;
+use crate::found::{Found, What};
+use crate::phase::Phase;
+use crate::reach::{Reach, reach_in};
+use news_types::Memory;
+use std::alloc::Global;
+use std::collections::VecDeque;
+
+/// Where reading stands: the members that are ready, the place of the next byte, and what has come
+/// of a message.
+#[derive(Drop)]
+pub struct State {
+    pub ready: VecDeque<Found>,
+    pub at: u64,
+    pub phase: Option<Phase>,
+    pub held: Vec<u8>,
+}
+
+/// A message that a piece does not end, and its bytes so far.
+#[derive(Drop)]
+pub struct Rest<'a> {
+    pub phase: Option<Phase>,
+    pub bytes: &'a [u8],
+}
+
+/// What the bytes of a message are that ends at this place.
+fn found_at(alloc: Global, at: u64, message: &[u8], what: Option<What>) -> Result<Found, Memory>
+    requires { length message.now ≤ 131071 }
+    ensures value { IfOk result (λ found. found ≡ closing at message.now what) }
+    ensures fits { IfOk result FitsFound }
+{
+    match what {
+        Some(what) => Ok(Found::Fault { at, what }),
+        None => Ok(Found::Story(incoming_of(alloc, message)?)),
+    }
+}
+
+/// Reads bytes that stand outside a message, up to the message that they do not end.
+fn read_on<'a>(
+    alloc: Global,
+    start: u64,
+    piece: &'a [u8],
+    made: &mut VecDeque<Found>,
+) -> Result<Rest<'a>, Memory>
+    requires fits { start + length piece.now < 2 ^ 64 }
+    requires made { All FitsFound made.old.items }
+    ensures made { OnOk result (All FitsFound made.new.items) }
+    ensures state { IfOk result (λ rest. IsOpen (start + length piece.now) rest.phase rest.bytes.now) }
+    ensures members { IfOk result (λ rest. (more : List ℕ) →
+        made.new.items ++ ahead_of (start + length piece.now) rest.phase rest.bytes.now more
+        ≡ made.old.items ++ wire_from start (piece.now ++ more)) }
+{
+    let mut at = start;
+    let mut rest = piece;
+    while let Some(gap) = place_of(rest, SOH) {
+        let (_, message) = rest.split_at(gap + 1);
+        let begin = at + gap as u64 + 1;
+        match reach_in(Phase::Source(0), 0, message) {
+            Reach::Open(phase) => {
+                return Ok(Rest {
+                    phase: Some(phase),
+                    bytes: message,
+                });
+            }
+            Reach::Ended { len, what } => {
+                let (front, behind) = message.split_at(len);
+                at = begin + len as u64;
+                made.push_back(found_at(alloc, at, front, what)?)?;
+                rest = behind;
+            }
+        }
+    }
+    Ok(Rest {
+        phase: None,
+        bytes: &[],
+    })
+}
+
+impl State {
+    /// The members that were made, and then what the bytes from this place on have, follow what is
+    /// ready. Nothing is held of a message before them.
+    fn go_on(
+        &mut self,
+        alloc: Global,
+        mut made: VecDeque<Found>,
+        at: u64,
+        piece: &[u8],
+    ) -> Result<(), Memory>
+        requires fits { at + length piece.now < 2 ^ 64 }
+        requires made { All FitsFound made.items }
+        requires ready { All FitsFound self.old.ready.items }
+        ensures ready { OnOk result (All FitsFound self.new.ready.items) }
+        ensures at { OnOk result (self.new.at ≡ at + length piece.now) }
+        ensures state { OnOk result (IsOpen self.new.at self.new.phase self.new.held.items) }
+        ensures members { OnOk result ((more : List ℕ) →
+            self.new.ready.items ++ ahead_of self.new.at self.new.phase self.new.held.items more
+            ≡ self.old.ready.items ++ made.items ++ wire_from at (piece.now ++ more)) }
+        ensures err_ready { OnErr result (self.new.ready.items ≡ self.old.ready.items) }
+        ensures err_at { OnErr result (self.new.at ≡ self.old.at) }
+        ensures err_phase { OnErr result (self.new.phase ≡ self.old.phase) }
+        ensures err_held { OnErr result (self.new.held.items ≡ self.old.held.items) }
+    {
+        let rest = read_on(alloc, at, piece, &mut made)?;
+        let held = Vec::from_slice(alloc, rest.bytes)?;
+        self.ready.append(&mut made)?;
+        self.at = at + piece.len() as u64;
+        self.phase = rest.phase;
+        self.held = held;
+        Ok(())
+    }
+
+    /// Takes a piece that ends the message of which some has come, behind so many bytes.
+    fn close(
+        &mut self,
+        alloc: Global,
+        piece: &[u8],
+        len: usize,
+        what: Option<What>,
+    ) -> Result<(), Memory>
+        requires fits { self.old.at + length piece.now < 2 ^ 64 }
+        requires within { len ≤ length piece.now }
+        requires few { length self.old.held.items + len ≤ 131071 }
+        requires ready { All FitsFound self.old.ready.items }
+        ensures ready { OnOk result (All FitsFound self.new.ready.items) }
+        ensures at { OnOk result (self.new.at ≡ self.old.at + length piece.now) }
+        ensures state { OnOk result (IsOpen self.new.at self.new.phase self.new.held.items) }
+        ensures members { OnOk result ((more : List ℕ) →
+            self.new.ready.items ++ ahead_of self.new.at self.new.phase self.new.held.items more
+            ≡ self.old.ready.items ++ closing (self.old.at + len) (self.old.held.items ++ take len piece.now) what ∷ wire_from (self.old.at + len) (drop len piece.now ++ more)) }
+        ensures err_ready { OnErr result (self.new.ready.items ≡ self.old.ready.items) }
+        ensures err_at { OnErr result (self.new.at ≡ self.old.at) }
+        ensures err_phase { OnErr result (self.new.phase ≡ self.old.phase) }
+        ensures err_held { OnErr result (take (length self.old.held.items) self.new.held.items ≡ self.old.held.items) }
+    {
+        let (front, rest) = piece.split_at(len);
+        let at = self.at + len as u64;
+        self.held.extend_from_slice(front)?;
+        let found = found_at(alloc, at, self.held.as_slice(), what)?;
+        let mut made = VecDeque::new(alloc);
+        made.push_back(found)?;
+        self.go_on(alloc, made, at, rest)?;
+        Ok(())
+    }
+
+    /// Takes the next piece.
+    pub fn take_in(&mut self, alloc: Global, piece: &[u8]) -> Result<(), Memory>
+        requires state { IsOpen self.old.at self.old.phase self.old.held.items }
+        requires ready { All FitsFound self.old.ready.items }
+        requires fits { self.old.at + length piece.now < 2 ^ 64 }
+        ensures at { OnOk result (self.new.at ≡ self.old.at + length piece.now) }
+        ensures state { OnOk result (IsOpen self.new.at self.new.phase self.new.held.items) }
+        ensures ready { OnOk result (All FitsFound self.new.ready.items) }
+        ensures members { OnOk result ((more : List ℕ) →
+            self.new.ready.items ++ ahead_of self.new.at self.new.phase self.new.held.items more
+            ≡ self.old.ready.items ++ ahead_of self.old.at self.old.phase self.old.held.items (piece.now ++ more)) }
+        ensures err_ready { OnErr result (self.new.ready.items ≡ self.old.ready.items) }
+        ensures err_at { OnErr result (self.new.at ≡ self.old.at) }
+        ensures err_phase { OnErr result (self.new.phase ≡ self.old.phase) }
+        ensures err_held { OnErr result (self.new.held.items ≡ self.old.held.items) }
+    {
+        let Some(phase) = self.phase else {
+            let made = VecDeque::new(alloc);
+            return self.go_on(alloc, made, self.at, piece);
+        };
+        match reach_in(phase, self.held.len(), piece) {
+            Reach::Open(phase) => {
+                self.held.extend_from_slice(piece)?;
+                self.phase = Some(phase);
+                self.at += piece.len() as u64;
+                Ok(())
+            }
+            Reach::Ended { len, what } => {
+                let kept = self.held.len();
+                match self.close(alloc, piece, len, what) {
+                    Ok(()) => Ok(()),
+                    Err(memory) => {
+                        self.held.truncate(kept);
+                        Err(memory)
+                    }
+                }
+            }
+        }
+    }
+
+    /// The input ends.
+    pub fn end(&mut self, alloc: Global) -> Result<(), Memory>
+        requires state { IsOpen self.old.at self.old.phase self.old.held.items }
+        requires ready { All FitsFound self.old.ready.items }
+        ensures at { self.new.at ≡ self.old.at }
+        ensures state { IsOpen self.new.at self.new.phase self.new.held.items }
+        ensures ready { All FitsFound self.new.ready.items }
+        ensures members { OnOk result (self.new.ready.items ≡ self.old.ready.items ++ ahead_of self.old.at self.old.phase self.old.held.items []) }
+        ensures err_ready { OnErr result (self.new.ready.items ≡ self.old.ready.items) }
+        ensures err_phase { OnErr result (self.new.phase ≡ self.old.phase) }
+        ensures err_held { OnErr result (self.new.held.items ≡ self.old.held.items) }
+    {
+        let Some(phase) = self.phase else {
+            return Ok(());
+        };
+        let found = found_at(alloc, self.at, self.held.as_slice(), phase.at_end())?;
+        self.ready.push_back(found)?;
+        self.phase = None;
+        self.held.clear();
+        Ok(())
+    }
+}
