@@ -1,0 +1,11 @@
+pub mod FrontLemmas
+pub mod HeadsAtFront
+pub mod Late
+pub mod Long
+pub mod NameText
+pub mod Targets
+pub mod Tokens
+pub mod Texts
+pub mod Total
+pub mod Unique
+pub mod Writes

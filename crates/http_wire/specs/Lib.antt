@@ -1,0 +1,10 @@
+pub mod Limits
+pub mod Fields
+pub mod Heads
+pub mod Requests
+pub mod Wires
+pub mod Writing
+pub mod Laws
+pub mod Target
+pub mod Found
+pub mod Steps

@@ -1,0 +1,29 @@
+-- What is written of some bytes.
+use Rattle.std.specs.Prelude.{◌≡◌, ℕ, ◌++◌, List, [], ◌∷◌, length, codes, decimal, Result, Ok, Err}
+use Rattle.std.specs.List.{concat}
+use Rattle.news_io.specs.declared.faults.Failed.{Failed}
+
+-- what stands in the text before this rest of it was written
+pub record Wrote {O : Type 0} (taken : O → List ℕ) (old new : O) (text rest : List ℕ) : Type 0 where
+  pub said : List ℕ
+  pub part : text ≡ said ++ rest
+  pub wrote : taken new ≡ taken old ++ said
+
+-- a beginning of the text was written
+abbrev pub WroteSome : {O : Type 0} → (O → List ℕ) → O → O → List ℕ → Type 0
+WroteSome taken old new text = (rest : List ℕ) × Wrote taken old new text rest
+
+-- all of the text, or a beginning of it where the sink failed
+abbrev pub Writes : {O : Type 0} → (O → List ℕ) → O → O → List ℕ → Result (Unit {0}) Failed → Type 0
+Writes taken old new text (Ok u) = taken new ≡ taken old ++ text
+Writes taken old new text (Err e) = WroteSome taken old new text
+
+-- all of the text but what is held back, or a beginning of it where the sink failed
+abbrev pub Puts : {O : Type 0} → (O → List ℕ) → O → O → List ℕ → List ℕ → Result (Unit {0}) Failed → Type 0
+Puts taken old new text held (Ok u) = Wrote taken old new text held
+Puts taken old new text held (Err e) = WroteSome taken old new text
+
+-- the bytes of a response: its parts, one behind the other
+abbrev pub response : ℕ → List ℕ → List ℕ → List ℕ
+response status media body =
+    concat (codes "HTTP/1.1 " ∷ decimal status ∷ codes " \r\nContent-Type: " ∷ media ∷ codes "\r\nContent-Length: " ∷ decimal (length body) ∷ codes "\r\n\r\n" ∷ body ∷ [])
