@@ -1,0 +1,2 @@
+mod ZoneRules
+mod Clocks
