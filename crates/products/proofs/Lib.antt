@@ -1,0 +1,5 @@
+pub mod Loops
+pub mod Blocking
+pub mod Judged
+pub mod Listed
+pub mod Changed

@@ -1,0 +1,14 @@
+//! Products and subscribers: who is permitted a story, and to whom a publication is due.
+#![tactic(auto)]
+
+mod change;
+mod due;
+mod judge;
+mod names;
+mod permit;
+mod table;
+#[cfg(test)]
+mod tests;
+
+pub use change::ProductChange;
+pub use table::Products;
