@@ -11,7 +11,8 @@ use Rattle.byte_formats.proofs.Laws.{Lawful, chain_lawful, via, remake}
 use Rattle.byte_formats.proofs.Fields.{nothing_lawful, pair_lawful, ranged_lawful}
 use Rattle.byte_formats.proofs.Numbers.{wide64, whole_lawful}
 use Rattle.entry_codec.specs.Spelling as spelled
-use Rattle.entry_codec.specs.Fits.{IsMoment, FitsAct}
+use Rattle.news_types.specs.Fits.{IsMoment}
+use Rattle.entry_codec.specs.Fits.{FitsAct}
 use Rattle.entry_codec.specs.Formed.{IsFormedAct, IsEntry}
 use Rattle.entry_codec.specs.Reading.{moment, incoming}
 use Rattle.entry_codec.specs.Commands.{command, act, act_at, act_fields, act_tag, entry, entry_at}

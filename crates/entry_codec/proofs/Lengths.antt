@@ -18,7 +18,8 @@ use Rattle.news_types.specs.declared.entry.Entry.{Entry}
 use Rattle.byte_formats.specs.Spelling.{◌&◌, IsName, IsOption, byte, u16, u32, u64, name, text, list, option, flag}
 use Rattle.byte_formats.proofs.Names.{name_parts}
 use Rattle.entry_codec.specs.Spelling.{field_number, op_number, how_number, format_number, status_number, story, incoming, statement, place, rule, command, act, entry_bytes}
-use Rattle.entry_codec.specs.Fits.{FitsStory, FitsIncoming, FitsValues, FitsStatement, FitsStatements, FitsRule, FitsScheme}
+use Rattle.news_types.specs.Fits.{FitsStory, FitsIncoming}
+use Rattle.entry_codec.specs.Fits.{FitsValues, FitsStatement, FitsStatements, FitsRule, FitsScheme}
 use Rattle.entry_codec.specs.Formed.{IsFormedStatement, IsFormedPlace, IsFormedRule, IsEntry}
 use Rattle.entry_codec.proofs.CommandLaws.{IsCommand}
 use Rattle.entry_codec.proofs.EntryLaws.{IsAct}

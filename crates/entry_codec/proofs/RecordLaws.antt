@@ -14,7 +14,8 @@ use Rattle.byte_formats.proofs.Numbers.{wide32, whole_lawful}
 use Rattle.byte_formats.proofs.Names.{name_lawful}
 use Rattle.byte_formats.proofs.Texts.{text_lawful}
 use Rattle.byte_formats.proofs.Options.{option_lawful, list_lawful, flag_lawful}
-use Rattle.entry_codec.specs.Fits.{IsMoment, FitsStory, FitsIncoming, FitsStatement, FitsRule}
+use Rattle.news_types.specs.Fits.{IsMoment, FitsStory, FitsIncoming}
+use Rattle.entry_codec.specs.Fits.{FitsStatement, FitsRule}
 use Rattle.entry_codec.specs.Formed.{IsFormedStory, IsFormedIncoming, IsFormedStatement, IsFormedPlace, IsFormedRule}
 use Rattle.entry_codec.specs.Reading as reading
 use Rattle.entry_codec.specs.Reading.{story_at, story_fields, story_of, incoming_at, incoming_fields, incoming_of, statement_at, statement_fields, place_at, rule_at, rule_fields, rule_of}

@@ -19,7 +19,7 @@ use Rattle.byte_formats.proofs.Laws.{Lawful, via}
 use Rattle.byte_formats.proofs.Fields.{ranged_lawful}
 use Rattle.byte_formats.proofs.Numbers.{wide16, wide64, upto_lawful}
 use Rattle.entry_codec.specs.Spelling.{media_number, status_number, field_number, op_number, how_number, format_number}
-use Rattle.entry_codec.specs.Fits.{IsMoment}
+use Rattle.news_types.specs.Fits.{IsMoment}
 use Rattle.entry_codec.specs.Reading as reading
 use Rattle.entry_codec.specs.Reading.{worded, media_by, status_by, field_by, op_by, how_by, format_by, kind_at, status_at, field_at, op_at, how_at, feed_format_at, privileges_at}
 

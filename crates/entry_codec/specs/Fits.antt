@@ -1,7 +1,6 @@
 -- The limits on what an entry holds.
 use Rattle.std.specs.Prelude.{ℕ, ◌<◌, ◌≤◌, List, length, All}
-use Rattle.news_types.specs.declared.story.Story.{Story}
-use Rattle.news_types.specs.declared.story.Incoming.{Incoming}
+use Rattle.news_types.specs.Fits.{IsMoment, FitsStory, FitsIncoming}
 use Rattle.news_types.specs.declared.rules.Statement.{Statement}
 use Rattle.news_types.specs.declared.rules.Rule.{Rule}
 use Rattle.news_types.specs.declared.command.Command.{Command}
@@ -10,25 +9,6 @@ use Rattle.news_types.specs.declared.entry.Act.{Act}
 use Rattle.news_types.specs.declared.entry.Act.TheVariants.{Ingest, Request}
 use Rattle.news_types.specs.declared.entry.Entry.{Entry}
 use Rattle.byte_formats.specs.Spelling.{IsOption}
-
--- before the year 10000
-abbrev pub IsMoment : ℕ → Type 0
-IsMoment m = m < 253402300800
-
-pub record FitsStory (s : Story) : Type 0 where
-  pub urgency : s.urgency ≤ 9
-  pub slugline : length s.slugline ≤ 500
-  pub headline : length s.headline ≤ 500
-  pub byline : length s.byline ≤ 500
-  pub language : length s.language ≤ 35
-  pub category : length s.category ≤ 3
-  pub body : length s.body ≤ 262144
-
-pub record FitsIncoming (i : Incoming) : Type 0 where
-  pub identity : length i.identity ≤ 256
-  pub created : IsMoment i.created
-  pub embargo : IsMoment i.embargo
-  pub story : FitsStory i.story
 
 -- the values of a condition
 pub record FitsValues (values : List (List ℕ)) : Type 0 where

@@ -5,7 +5,8 @@ ghost use Rattle.byte_formats.specs.Format.{Format, many_at};
 ghost use Rattle.byte_formats.specs.Spelling.{IsName, IsOption, list as list_bytes, option as option_bytes, name as name_bytes, flag as flag_bytes, u32 as u32_bytes, u64 as u64_bytes};
 ghost use Rattle.byte_formats.specs.Fields.{name, text, option_at, list_at};
 ghost use Rattle.byte_formats.specs.Gives.{Gives, GivesItems};
-ghost use Rattle.entry_codec.specs.Fits.{IsMoment, FitsStatement, FitsRule};
+ghost use Rattle.news_types.specs.Fits.{IsMoment};
+ghost use Rattle.entry_codec.specs.Fits.{FitsStatement, FitsRule};
 ghost use Rattle.entry_codec.specs.Formed.{IsFormedPlace, IsFormedStatement, IsFormedRule};
 ghost use Rattle.entry_codec.specs.Reading.{moment, place, statement, rule};
 

@@ -3,7 +3,7 @@
 ghost use Rattle.std.specs.Prelude.{◌≡◌, ◌++◌, OnOk};
 ghost use Rattle.byte_formats.specs.Gives.{Gives};
 ghost use Rattle.entry_codec.specs.Spelling.{story as story_bytes, incoming as incoming_bytes};
-ghost use Rattle.entry_codec.specs.Fits.{FitsStory, FitsIncoming};
+ghost use Rattle.news_types.specs.Fits.{FitsStory, FitsIncoming};
 ghost use Rattle.entry_codec.specs.Formed.{IsFormedStory, IsFormedIncoming};
 ghost use Rattle.entry_codec.specs.Reading.{story_at, incoming_at};
 

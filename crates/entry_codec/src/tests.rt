@@ -1,7 +1,7 @@
 //! Entries as bytes counted by hand, and bytes that are no entry with the place of their fault.
 
 ghost use Rattle.std.specs.Prelude.{IfOk};
-ghost use Rattle.entry_codec.specs.Fits.{IsMoment};
+ghost use Rattle.news_types.specs.Fits.{IsMoment};
 ghost use Rattle.entry_codec.specs.Formed.{IsEntry};
 ghost use Rattle.entry_codec.specs.Answers.{IsSmall};
 

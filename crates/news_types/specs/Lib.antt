@@ -23,3 +23,4 @@ pub mod Frames
 pub mod Calls
 pub mod Server
 pub mod Books
+pub mod Fits

@@ -8,7 +8,7 @@ use Rattle.news_types.specs.declared.story.Story.{Story}
 use Rattle.news_types.specs.declared.command.Command.{Command}
 use Rattle.news_types.specs.declared.query.Query.TheVariants as query
 use Rattle.news_types.specs.Names.{Bytes, same}
-use Rattle.entry_codec.specs.Fits.{FitsStory}
+use Rattle.news_types.specs.Fits.{FitsStory}
 use Rattle.newsroom.specs.Built.{is_all, is_none}
 use Rattle.newsdesk_cli.specs.Lines.{IsFit, CanDo}
 use Rattle.desk_lines.specs.declared.property.LineProperty.{LineProperty}

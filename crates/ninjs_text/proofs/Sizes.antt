@@ -18,7 +18,7 @@ use Rattle.news_types.specs.declared.words.Kind.TheVariants.{First, Correct, Kil
 use Rattle.news_types.specs.Names.{Bytes}
 use Rattle.news_types.specs.Conditions.{media_word}
 use Rattle.release_rules.specs.Writer.{moment_text}
-use Rattle.entry_codec.specs.Fits.{FitsStory}
+use Rattle.news_types.specs.Fits.{FitsStory}
 use Rattle.ninjs_text.specs.Words.{status_word}
 use Rattle.ninjs_text.specs.Writing.{put_text, put_filled, put_urgency, put_version, body_key, members, item_bytes}
 

@@ -22,7 +22,7 @@ use Rattle.news_types.specs.Conditions.{media_word}
 use Rattle.release_rules.specs.Civil.{last_moment}
 use Rattle.release_rules.specs.Reader.{moment_of}
 use Rattle.release_rules.specs.Writer.{moment_text}
-use Rattle.entry_codec.specs.Fits.{FitsStory}
+use Rattle.news_types.specs.Fits.{FitsStory}
 use Rattle.ninjs_text.specs.declared.fault.Property.{Property}
 use Rattle.ninjs_text.specs.declared.fault.Property.TheVariants as property_is
 use Rattle.ninjs_text.specs.declared.fault.NinjsFault.{NinjsFault}

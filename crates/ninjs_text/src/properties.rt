@@ -2,7 +2,7 @@
 ghost use Rattle.std.specs.Prelude.{◌≡◌, ◌≤◌, IfOk, option_map};
 ghost use Rattle.std.specs.Result.{result_map_both};
 ghost use Rattle.serde_json.specs.View.{view};
-ghost use Rattle.entry_codec.specs.Fits.{IsMoment};
+ghost use Rattle.news_types.specs.Fits.{IsMoment};
 ghost use Rattle.ninjs_text.specs.Properties as said;
 
 use crate::fault::{NinjsFault, Property};

@@ -1,7 +1,7 @@
 //! Items are read.
 ghost use Rattle.std.specs.Prelude.{◌≡◌, ◌≤◌, Some, IfOk, IfErr, length};
 ghost use Rattle.serde_json.specs.View.{view};
-ghost use Rattle.entry_codec.specs.Fits.{FitsIncoming};
+ghost use Rattle.news_types.specs.Fits.{FitsIncoming};
 ghost use Rattle.ninjs_text.specs.Reading.{IsRead, IsNoJson, json_of};
 ghost use Rattle.ninjs_text.specs.Item as said;
 

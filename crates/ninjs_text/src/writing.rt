@@ -7,7 +7,7 @@ ghost use Rattle.serde_json.specs.Written.{compact_text, members_have_float};
 ghost use Rattle.release_rules.specs.Civil.{last_moment};
 ghost use Rattle.release_rules.specs.Reader.{moment_of};
 ghost use Rattle.release_rules.specs.Writer.{moment_text};
-ghost use Rattle.entry_codec.specs.Fits.{FitsStory};
+ghost use Rattle.news_types.specs.Fits.{FitsStory};
 ghost use Rattle.ninjs_text.specs.Reading.{json_of};
 ghost use Rattle.ninjs_text.specs.Item.{ninjs};
 ghost use Rattle.ninjs_text.specs.Told.{told};

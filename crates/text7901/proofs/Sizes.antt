@@ -9,7 +9,7 @@ use Rattle.std.proofs.lemmas.Str.{length-encode, len_utf8_ascii}
 use Rattle.std.specs.Prelude.{Result, Ok, Err, IfOk}
 use Rattle.news_types.specs.declared.story.Incoming.{Incoming}
 use Rattle.text7901.specs.Fields.{letter, digit, lead, past, before, behind, begins_line, with_lf, without_last_lf, utf8, is_short, fitting, is_urgency, urgency, behind_urgency, category_in, body, ends_field, story_of, lines_of, incoming, first_line, head, trim, text, named}
-use Rattle.text7901.specs.Limits.{FitsStory, FitsIncoming}
+use Rattle.news_types.specs.Fits.{FitsStory, FitsIncoming}
 use Rattle.text7901.proofs.Parts.{utf8_length}
 
 abbrev IsShorter : List ℕ → List ℕ → Type 0
