@@ -2,6 +2,8 @@
 //!
 //! A rule applies where its filter matches, the local weekday is one of its days, and the local second of the day lies
 //! in its span. What the rules that apply ask for is taken in order, up to and with the first exit.
+//!
+//! The zones that the rules name are read once, when `Routes` is made of a scheme, and not for each story.
 #![tactic(auto)]
 
 mod actions;
@@ -12,7 +14,7 @@ mod zone;
 
 pub use actions::Actions;
 pub use judge::judge_scheme;
-pub use routing::route;
+pub use routing::Routes;
 
 #[cfg(test)]
 mod tests;

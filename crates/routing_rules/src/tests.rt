@@ -1,4 +1,4 @@
-use crate::{Actions, judge_scheme, route};
+use crate::{Actions, Routes, judge_scheme};
 use content_filters::Filters;
 use news_types::{
     Command, Field, Media, Memory, Moment, Name, Names, Op, Place, RouteAction, Rule, Scheme,
@@ -81,7 +81,7 @@ fn push_word(text: &mut String, action: &RouteAction) -> Result<(), Memory> {
     Ok(())
 }
 
-/// Whether the rules ask for this of a story of that urgency.
+/// Whether the rules may be given, and ask for this of a story of that urgency.
 fn is_asked(
     alloc: Global,
     rows: &[Row],
@@ -91,8 +91,12 @@ fn is_asked(
     expected: &str,
 ) -> Result<bool, Memory> {
     let scheme = scheme(alloc, rows)?;
+    if !judge_scheme(&scheme)? {
+        return Ok(false);
+    }
+    let routes = Routes::of(alloc, scheme)?;
     let story = story(alloc, urgency)?;
-    let actions = route(alloc, &scheme, filters, &story, moment)?;
+    let actions = routes.route(filters, &story, moment)?;
     Ok(words(alloc, &actions)?.as_str() == expected)
 }
 
@@ -149,14 +153,15 @@ const CLOCKS: [(&str, u8, u32, Moment); 16] = [
     ("AEST-10AEDT,M10.1.0,M4.1.0/3", 64, 10_800, 1_728_144_000),
 ];
 
-/// Whether a rule for one second of these days applies.
-fn applies(
+/// Whether a rule for one second of these days asks for this.
+fn is_asked_at(
     alloc: Global,
     filters: &Filters,
     zone: &'static str,
     days: u8,
     second: u32,
     moment: Moment,
+    expected: &str,
 ) -> Result<bool, Memory> {
     let row = Row {
         filter: "",
@@ -168,7 +173,7 @@ fn applies(
         publish: false,
         exit: true,
     };
-    is_asked(alloc, &[row], filters, 0, moment, "exit ")
+    is_asked(alloc, &[row], filters, 0, moment, expected)
 }
 
 #[test]
@@ -177,11 +182,11 @@ fn clocks(rt: HostRuntime) -> Result<(), Fail> {
     let filters = Filters::new(alloc)?;
     for (zone, day, second, moment) in CLOCKS {
         assert!(rt;
-            applies(alloc, &filters, zone, day, second, moment)?,
+            is_asked_at(alloc, &filters, zone, day, second, moment, "exit ")?,
             "{moment}"
         );
         assert!(rt;
-            !applies(alloc, &filters, zone, 127 ^ day, second, moment)?,
+            is_asked_at(alloc, &filters, zone, 127 ^ day, second, moment, "")?,
             "{moment}"
         );
     }

@@ -1,13 +1,14 @@
 //! Zones as rules name them, and the local day in them.
-ghost use Rattle.std.specs.Prelude.{◌≡◌, ℕ, ℤ, pos, neg_ℤ, ◌<◌, ◌≤◌, min, IfSome, Some, option_map};
+ghost use Rattle.std.specs.Prelude.{◌≡◌, ℕ, ℤ, pos, neg_ℤ, ◌<◌, ◌≤◌, min, IsTrue, IfSome, Some, option_map};
 ghost use Rattle.jiff_core.specs.Calendar.{IsWithin};
 ghost use Rattle.jiff_core.specs.Time.{time_seconds};
 ghost use Rattle.jiff_core.specs.Weekday.{monday_zero};
 ghost use Rattle.jiff_core.specs.Timestamp.{nanos_of_seconds};
 ghost use Rattle.jiff_tz.specs.Zone.{offset_at};
 ghost use Rattle.jiff.specs.ZoneView.{plain_zone};
-ghost use Rattle.news_types.specs.Clock.{local_of, local_at, zone_offset, last_local, fixed_of, pair_number};
+ghost use Rattle.news_types.specs.Clock.{local_of, zone_offset, last_local, fixed_of, pair_number};
 ghost use Rattle.news_types.specs.Routing as said;
+ghost use Rattle.routing_rules.specs.Zones.{NamesZone};
 
 use jiff::Timestamp;
 use jiff::civil::Weekday;
@@ -25,19 +26,19 @@ pub(crate) fn is_zone(text: &str) -> bool
     read_zone(text).is_some()
 }
 
-/// The local weekday, from 0 for Monday, and the local second of the day, in the zone that the text names. A moment past
-/// 253402207200 counts as that one.
-pub(crate) fn local_by_text(zone: &str, moment: Moment) -> Option<(u8, u32)>
-    ensures value { result ≡ local_at zone.now moment }
-    ensures day { IfSome result (λ clock. clock.0 < 7) }
+/// The zone that the text names.
+pub(crate) fn zone_of(text: &str) -> TimeZone<'static>
+    requires { IsTrue (said.is_zone text.now) }
+    ensures { NamesZone text.now result }
 {
-    match read_zone(zone) {
-        Some(zone) => Some(local(&zone, moment)),
-        None => None,
+    match read_zone(text) {
+        Some(zone) => zone,
+        None => unreachable!(),
     }
 }
 
-fn local(zone: &TimeZone<'_>, moment: Moment) -> (u8, u32)
+/// The local weekday, from 0 for Monday, and the local second of the day. A moment past 253402207200 counts as that one.
+pub(crate) fn local(zone: &TimeZone<'_>, moment: Moment) -> (u8, u32)
     ensures value { result ≡ local_of moment (offset_at (plain_zone zone.now) (nanos_of_seconds (pos (min moment last_local)))) }
     ensures day { result.0 < 7 }
 {
