@@ -10,3 +10,8 @@ pub mod Whole
 pub mod Words
 pub mod Numerals
 pub mod Runs
+pub mod Except
+pub mod Sounds
+pub mod Varints
+pub mod Alls
+pub mod Boxed

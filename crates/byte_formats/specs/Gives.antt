@@ -12,6 +12,11 @@ abbrev pub Fails : {A : Type 0} → Stopped → Result A ℕ → Type 0
 Fails stopped.Memory read = Unit {0}
 Fails (stopped.Left left) read = read ≡ Err left
 
+-- It stopped at a fault, and not for want of memory.
+abbrev pub IsFault : Stopped → Type 0
+IsFault stopped.Memory = ⊥
+IsFault (stopped.Left left) = Unit {0}
+
 -- What a call returned, and what it left, is what reading gives, unless memory ran out.
 abbrev pub Gives : {A : Type 0} → Result A Stopped → List ℕ → Result (A × List ℕ) ℕ → Type 0
 Gives (Ok x) rest read = read ≡ Ok (x, rest)

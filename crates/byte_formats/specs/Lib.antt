@@ -5,3 +5,7 @@ pub mod Until
 pub mod Gives
 pub mod Lawful
 pub mod Faults
+pub mod Except
+pub mod Parts
+pub mod Varint
+pub mod Places

@@ -2,12 +2,13 @@
 //! left from the first faulty byte on, 0 where the bytes end too soon.
 
 ghost use Rattle.std.specs.Prelude.{◌≡◌, ◌<◌, ◌≤◌, length, take, IsTrue, IsUtf8, Some, None, true};
-ghost use Rattle.news_types.specs.Names.{is_name, is_name_byte};
+ghost use Rattle.news_types.specs.Names.{is_name};
 ghost use Rattle.byte_formats.specs.Format.{scan_at, digit_step};
 ghost use Rattle.byte_formats.specs.Fields.{name_step, utf8_step, due};
 ghost use Rattle.byte_formats.specs.Gives.{Judges};
 
 use crate::due::{Due, due_next};
+use news_types::is_name_letter;
 
 /// The fault of a number whose digits, of base 256, are at most these.
 #[tactic(auto, unfolding(crate::specs::Format::scan_at))]
@@ -55,13 +56,6 @@ pub fn name_fault(len: usize, bytes: &[u8]) -> Option<usize>
         }
     }
     None
-}
-
-/// Whether a name may have it.
-pub fn is_name_letter(byte: u8) -> bool
-    ensures { result ≡ is_name_byte byte }
-{
-    matches!(byte, b'a'..=b'z' | b'0'..=b'9' | b'-' | b'_')
 }
 
 /// The fault of a text of so many bytes.

@@ -1,12 +1,15 @@
 //! The bytes that are still to be read.
 
-ghost use Rattle.std.specs.Prelude.{◌≡◌, ℕ, List, length, ◌<◌, ◌≤◌, IsTrue, IfOk, IfErr, Ok};
+ghost use Rattle.std.specs.Prelude.{◌≡◌, ℕ, suc, List, length, ◌<◌, ◌≤◌, true, IsTrue, IfOk, IfErr, Ok};
 ghost use Rattle.std.specs.Int.{w16, w32, w64};
 ghost use Rattle.byte_formats.specs.Format.{byte_at, free_at, whole_at, upto_at};
 ghost use Rattle.byte_formats.specs.Fields.{text_at, name_at, flag_at};
+ghost use Rattle.byte_formats.specs.Except.{from_one_at, some_text_at};
 ghost use Rattle.byte_formats.specs.Until.{word_at, numeral_at, literal_at};
-ghost use Rattle.byte_formats.specs.Gives.{Fails, Gives};
+ghost use Rattle.byte_formats.specs.Varint.{varint_at};
+ghost use Rattle.byte_formats.specs.Gives.{Fails, Gives, IsFault};
 ghost use Rattle.news_types.specs.Names.{is_name};
+ghost use Rattle.byte_formats.specs.declared.stop.Stopped.TheVariants.{Left};
 
 use crate::faults::{digits_fault, name_fault, utf8_fault};
 use crate::line::{literal_fault, numeral_end, word_end};
@@ -46,6 +49,13 @@ impl<'a> Input<'a> {
         self.rest.len()
     }
 
+    /// Stopped at the last byte that was read.
+    pub fn at_last(&self) -> Stopped
+        ensures { result ≡ Left (suc (length self.now)) }
+    {
+        Stopped::Left(self.rest.len() + 1)
+    }
+
     /// One byte in a range.
     pub fn byte(&mut self, least: u8, most: u8) -> Result<u8, Stopped>
         ensures { Gives result self.new (byte_at least most self.old) }
@@ -62,10 +72,11 @@ impl<'a> Input<'a> {
         }
     }
 
-    /// So many bytes, whichever they are.
+    /// So many bytes, whichever they are. It takes no memory.
     pub fn bytes(&mut self, len: usize) -> Result<&'a [u8], Stopped>
         ensures bytes { IfOk result (λ front. free_at len self.old ≡ Ok (front.now, self.new)) }
         ensures fault { IfErr result (λ stopped. Fails stopped (free_at len self.old)) }
+        ensures calm { IfErr result IsFault }
     {
         if self.rest.len() < len {
             return Err(Stopped::Left(0));
@@ -129,6 +140,18 @@ impl<'a> Input<'a> {
         Ok(u32::from_be_bytes([front[0], front[1], front[2], front[3]]))
     }
 
+    /// A number of four bytes, from 1 up to `most`. Where it is 0 its last byte is the fault.
+    #[tactic(auto, unfolding(crate::specs::Except::from_one_at))]
+    pub fn u32_from_one(&mut self, most: u32) -> Result<u32, Stopped>
+        ensures { Gives result self.new (from_one_at w32 most self.old) }
+    {
+        let number = self.u32_upto(most)?;
+        if number == 0 {
+            return Err(Stopped::Left(self.rest.len() + 1));
+        }
+        Ok(number)
+    }
+
     /// A number of eight bytes, up to `most`. The fault is the first byte that takes it past that.
     #[tactic(auto, unfolding(crate::specs::Format::upto_at))]
     pub fn u64_upto(&mut self, most: u64) -> Result<u64, Stopped>
@@ -183,10 +206,59 @@ impl<'a> Input<'a> {
         }
     }
 
-    /// These very bytes.
+    /// A text that is not empty, of at most so many bytes behind four bytes of length. Where it is empty the last
+    /// byte of the length is the fault.
+    #[tactic(auto, unfolding(crate::specs::Except::some_text_at))]
+    pub fn some_text(&mut self, alloc: Global, limit: u32) -> Result<Text, Stopped>
+        ensures { Gives result self.new (some_text_at limit self.old) }
+    {
+        let text = self.text(alloc, limit)?;
+        if text.as_str().is_empty() {
+            return Err(Stopped::Left(self.rest.len() + 1));
+        }
+        Ok(text)
+    }
+
+    /// A number up to `most` in 7-bit groups, the low group first.
+    pub fn varint(&mut self, most: u64) -> Result<u64, Stopped>
+        ensures gives { Gives result self.new (varint_at true most self.old) }
+        ensures fits { IfOk result (λ n. n ≤ most) }
+    {
+        self.groups(true, most)
+    }
+
+    /// Such a number, or what is left of one behind its first groups.
+    #[tactic(auto, unfolding(crate::specs::Varint::varint_at))]
+    fn groups(&mut self, first: bool, most: u64) -> Result<u64, Stopped>
+        ensures gives { Gives result self.new (varint_at first most self.old) }
+        ensures fits { IfOk result (λ n. n ≤ most) }
+    {
+        match self.rest {
+            [] => Err(Stopped::Left(0)),
+            [byte, rest @ ..] => {
+                let group = u64::from(*byte);
+                if group < 128 {
+                    if most < group || (group == 0 && !first) {
+                        return Err(Stopped::Left(self.rest.len()));
+                    }
+                    self.rest = rest;
+                    return Ok(group);
+                }
+                if most < group {
+                    return Err(Stopped::Left(self.rest.len()));
+                }
+                self.rest = rest;
+                let high = self.groups(false, (most - (group - 128)) / 128)?;
+                Ok(group - 128 + 128 * high)
+            }
+        }
+    }
+
+    /// These very bytes. It takes no memory.
     #[tactic(auto, unfolding(crate::specs::Until::literal_at))]
     pub fn literal(&mut self, word: &[u8]) -> Result<(), Stopped>
-        ensures { Gives result self.new (literal_at word.now self.old) }
+        ensures gives { Gives result self.new (literal_at word.now self.old) }
+        ensures calm { IfErr result IsFault }
     {
         if let Some(left) = literal_fault(word, self.rest) {
             return Err(Stopped::Left(left));
@@ -196,9 +268,10 @@ impl<'a> Input<'a> {
         Ok(())
     }
 
-    /// A name and the space behind it.
+    /// A name and the space behind it. It takes no memory.
     pub fn word(&mut self) -> Result<Name, Stopped>
-        ensures { Gives result self.new (word_at self.old) }
+        ensures gives { Gives result self.new (word_at self.old) }
+        ensures calm { IfErr result IsFault }
     {
         match word_end(self.rest) {
             Ok(len) => {
@@ -211,12 +284,13 @@ impl<'a> Input<'a> {
     }
 
     /// A decimal number from `least`, which is 0 or 1, up to `most`, without leading zeros, and the
-    /// byte `stop` behind it, which is below the digits.
+    /// byte `stop` behind it, which is below the digits. It takes no memory.
     pub fn decimal(&mut self, stop: u8, least: u32, most: u32) -> Result<u32, Stopped>
         requires stop { stop < 48 }
         requires least { least ≤ 1 }
         requires some { least ≤ most }
-        ensures { Gives result self.new (numeral_at stop least most self.old) }
+        ensures gives { Gives result self.new (numeral_at stop least most self.old) }
+        ensures calm { IfErr result IsFault }
     {
         match numeral_end(stop, least, most, self.rest) {
             Ok((value, digits)) => {

@@ -5,6 +5,7 @@ ghost use Rattle.std.specs.Int.{w16, w32, w64};
 ghost use Rattle.byte_formats.specs.Format.{whole, upto, ranged, free};
 ghost use Rattle.byte_formats.specs.Fields.{name, text, flag};
 ghost use Rattle.byte_formats.specs.Until.{word, numeral, literal};
+ghost use Rattle.byte_formats.specs.Varint.{varint};
 ghost use Rattle.byte_formats.specs.Lawful.{IsBytes, Lawful};
 ghost use Rattle.byte_formats.specs.Spelling.{IsName, IsText};
 
@@ -17,6 +18,7 @@ pub fn fields_law()
     ensures u16_upto { (most : ℕ) → most < 2 ^ 16 → Lawful (upto w16 most) (λ n. n ≤ most) }
     ensures u32_upto { (most : ℕ) → most < 2 ^ 32 → Lawful (upto w32 most) (λ n. n ≤ most) }
     ensures u64_upto { (most : ℕ) → most < 2 ^ 64 → Lawful (upto w64 most) (λ n. n ≤ most) }
+    ensures varints { (most : ℕ) → most < 2 ^ 64 → Lawful (varint most) (λ n. n ≤ most) }
     ensures flags { Lawful flag (λ _. Unit {0}) }
     ensures names { Lawful name IsName }
     ensures texts { (limit : ℕ) → limit < 2 ^ 32 → Lawful (text limit) (IsText limit) }

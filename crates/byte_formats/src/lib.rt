@@ -14,7 +14,7 @@ mod stop;
 
 pub use input::Input;
 pub use law::fields_law;
-pub use output::{put_decimal, put_name, put_text};
+pub use output::{put_decimal, put_name, put_text, put_varint};
 pub use small::SmallBytes;
 pub use stop::Stopped;
 

@@ -6,7 +6,7 @@ ghost use Rattle.byte_formats.specs.Format.{scan_at};
 ghost use Rattle.byte_formats.specs.Until.{word_at, word_step, numeral_at, numeral_step, literal_step};
 ghost use Rattle.byte_formats.specs.Gives.{Judges, GivesWord, GivesNumber, IsMove};
 
-use crate::faults::is_name_letter;
+use news_types::is_name_letter;
 
 /// How many bytes the name has that a space ends, or else how many bytes are left from the fault on.
 #[tactic(auto, unfolding(crate::specs::Until::word_at))]

@@ -1,13 +1,18 @@
 -- The table behind a change.
-use Rattle.std.proofs.Common.{◌≡◌, ℕ, zero, suc, ◌+◌, ◌<◌, Bool, true, false, not, ◌&&◌, ◌||◌, cond, List, [], ◌∷◌, ◌++◌, length, map, set, get_or, Option, Some, None, refl, sym, ap, ◌∙◌, arith}
+use Rattle.std.proofs.Common.{◌≡◌, ℕ, zero, suc, ◌+◌, ◌<◌, Bool, true, false, not, ◌&&◌, ◌||◌, cond, List, [], ◌∷◌, ◌++◌, length, map, set, get_or, Option, Some, None, refl, sym, ap, subst, ◌∙◌, arith}
 use Rattle.std.proofs.lemmas.List.{length-map, map-append}
 use Rattle.std.proofs.lemmas.Bool.{false≢true}
 use Rattle.std.specs.List.{slice_get, filter}
 use Rattle.std.specs.Option.{option_map, option_and_then}
 use Rattle.news_types.proofs.Members.{same_is, same_self, some_is, none_some}
 use Rattle.news_types.specs.Names.{Bytes, same, is_in}
-use Rattle.news_types.specs.Conditions.{Condition}
-use Rattle.news_types.specs.Filters.{Filter, has_filter, changed}
+use Rattle.news_types.specs.History.{History}
+use Rattle.news_types.specs.Conditions.{Condition, condition, condition_after, condition_count, conditions_added}
+use Rattle.news_types.specs.Filters.{Filter, filters, filters_after, has_filter, changed}
+use Rattle.news_types.specs.declared.entry.Entry.{Entry}
+use Rattle.news_types.specs.declared.entry.Act.{Act}
+use Rattle.news_types.specs.declared.entry.Act.TheVariants.{Request}
+use Rattle.news_types.specs.declared.command.Command.{Command}
 use Rattle.news_types.specs.declared.denial.Denial.{Denial}
 use Rattle.news_types.specs.declared.denial.Denial.TheVariants.{UnknownThing}
 use Rattle.news_types.specs.declared.words.Thing.{Thing}
@@ -18,7 +23,9 @@ use Rattle.news_types.specs.Denial.{or_else, unless, absent, first_missing}
 use Rattle.content_filters.specs.declared.condition.KeptCondition.{KeptCondition}
 use Rattle.content_filters.specs.declared.table.KeptFilter.{KeptFilter}
 use Rattle.content_filters.specs.Kept.{condition_of, kept_of, oldest_first, age, AreApart, is_block}
-use Rattle.content_filters.specs.Reasons.{filter_denial}
+use Rattle.content_filters.specs.declared.table.Filters.{Filters}
+use Rattle.content_filters.specs.Keeps.{Keeps}
+use Rattle.content_filters.specs.Reasons.{filter_denial, KeepsFacts}
 use Rattle.content_filters.proofs.Ages.{get_front, get_end, age_below, kept_long, older_there}
 
 same_flip : (a b : Bytes) → same a b ≡ same b a
@@ -222,6 +229,10 @@ one_more_inside false o n p inside is = let lt : p < n = inside p is in omega ar
 
 -- ---- what is allowed
 
+pub or_none : (o : Option Denial) → or_else o None ≡ o
+or_none None = refl
+or_none (Some d) = refl
+
 neither : (a b : Option Denial) → or_else a b ≡ None → (a ≡ None) × (b ≡ None)
 neither None b is = (refl, is)
 neither (Some d) b is = absurd (none_some d (sym is))
@@ -251,3 +262,9 @@ module _ (found : Bytes → Option Condition) (count : ℕ) (fs : List Filter) (
 
 pub block_allowed : (found : Bytes → Option Condition) (count : ℕ) (fs : List Filter) (name : Bytes) (on : Bool) → filter_denial found count fs (SetBlock name on) ≡ None → has_filter name fs ≡ true
 block_allowed found count fs name on is = there_only (has_filter name fs) thing.Filter (neither _ _ is).0
+
+-- ---- one more request
+
+pub requested : (t : Filters) (h : History) (e : Entry) (caller : Bytes) (number : ℕ) (command : Command) → e.act ≡ Request caller number command
+    → Keeps t (λ name. condition_after name command (condition h name)) (condition_count h + conditions_added command) (filters_after command (filters h)) → KeepsFacts t (e ∷ h)
+requested t h e caller number command is keeps = subst (λ (act : Act). KeepsFacts t (record { moment = e.moment; act = act } ∷ h)) (sym is) keeps

@@ -4,5 +4,4 @@ pub mod Ages
 pub mod Judging
 pub mod Absent
 pub mod Facts
-pub mod InOrder
 pub mod Changed

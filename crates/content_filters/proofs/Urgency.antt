@@ -1,5 +1,5 @@
 -- An urgency past the digits compares with digits as any other such number does.
-use Rattle.std.proofs.Common.{◌≡◌, ℕ, ◌+◌, ◌≤◌, Bool, true, false, not, ◌&&◌, List, [], ◌∷◌, inl, inr, refl, sym, ap, ◌∙◌, arith, min, nat_eq, nat_lt, nat_le}
+use Rattle.std.proofs.Common.{◌≡◌, ℕ, ◌+◌, ◌≤◌, Bool, true, false, not, ◌&&◌, List, [], ◌∷◌, inl, inr, refl, sym, ap, ◌∙◌, arith, nat_eq, nat_lt, nat_le}
 use Rattle.std.proofs.lemmas.Bool.{false≢true, cases_lt}
 use Rattle.std.proofs.lemmas.Bool.Decides.{nat_tests}
 use Rattle.std.specs.List.{list_all}
@@ -9,7 +9,7 @@ use Rattle.news_types.specs.declared.words.Field.TheVariants.{Urgency}
 use Rattle.news_types.specs.declared.story.Story.{Story}
 use Rattle.news_types.specs.Names.{Bytes, same, is_in}
 use Rattle.news_types.specs.Conditions.{is_condition, is_folding_op, is_digit, compares, text_of, first_value, first_byte, fits_field}
-use Rattle.content_filters.specs.Folded.{urgency_text}
+use Rattle.content_filters.specs.Folded.{urgency_byte}
 
 both : (a b : Bool) → (a && b) ≡ true → (a ≡ true) × (b ≡ true)
 both true b h = (refl, h)
@@ -81,18 +81,18 @@ past_digits Gt n m values a b plain digits = more n m (first_byte (first_value v
 past_digits Gte n m values a b plain digits = least n m (first_byte (first_value values)) a b (below values digits)
 
 -- a condition on the urgency may take it as the digit or the byte behind the digits
-by_digit : (op : Op) (urgency : ℕ) (values : List Bytes) → is_condition Urgency op values ≡ true → compares op (urgency_text urgency) values ≡ compares op ((48 + urgency) ∷ []) values
+by_digit : (op : Op) (urgency : ℕ) (values : List Bytes) → is_condition Urgency op values ≡ true → compares op (urgency_byte urgency ∷ []) values ≡ compares op ((48 + urgency) ∷ []) values
 by_digit op urgency values valid =
     elim (cases_lt urgency 10) [
-      | inl few ↦ let e : min urgency 10 ≡ urgency = omega arith in rw e refl
-      | inr many ↦ let parts = fits op values valid in past_digits op (48 + min urgency 10) (48 + urgency) values (omega arith) (omega arith) parts.0 parts.1
+      | inl few ↦ let e : nat_lt 9 urgency ≡ false = grind (arith, nat_tests) in rw e refl
+      | inr many ↦ let e : nat_lt 9 urgency ≡ true = grind (arith, nat_tests) in let parts = fits op values valid in rw e (past_digits op 58 (48 + urgency) values (omega arith) (omega arith) parts.0 parts.1)
     ]
 
 plain_urgency : (op : Op) (values : List Bytes) → is_condition Urgency op values ≡ true → is_folding_op op ≡ false
 plain_urgency op values valid = (fits op values valid).0
 
 -- what was compared in place of the urgency
-pub by_urgency : (story : Story) (op : Op) (values : List Bytes) (verdict : Bool) (n : ℕ) → is_condition Urgency op values ≡ true → n ≡ min story.urgency 10
-    → (is_folding_op op ≡ false → verdict ≡ compares op ((48 + n) ∷ []) values) → verdict ≡ compares op (text_of Urgency story) values
+pub by_urgency : (story : Story) (op : Op) (values : List Bytes) (verdict : Bool) (n : ℕ) → is_condition Urgency op values ≡ true → n ≡ urgency_byte story.urgency
+    → (is_folding_op op ≡ false → verdict ≡ compares op (n ∷ []) values) → verdict ≡ compares op (text_of Urgency story) values
 by_urgency story op values verdict n valid is compared =
     compared (plain_urgency op values valid) ∙ rw is (by_digit op story.urgency values valid)

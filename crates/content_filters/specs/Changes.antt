@@ -1,16 +1,15 @@
 -- Changes of the table.
-use Rattle.std.specs.Prelude.{◌≡◌, ◌<◌, ℕ, false, List, Option, None, vec_len, vec_capacity}
+use Rattle.std.specs.Prelude.{◌≡◌, ◌<◌, false, None, vec_len, vec_capacity}
 use Rattle.std.specs.HashMap.{get, spare}
 use Rattle.news_types.specs.Names.{Bytes, same}
-use Rattle.news_types.specs.Conditions.{Condition}
-use Rattle.news_types.specs.Filters.{Filter}
+use Rattle.news_types.specs.History.{History}
 use Rattle.news_types.specs.declared.command.Command.{Command}
 use Rattle.news_types.specs.declared.command.Command.TheVariants as command
 use Rattle.content_filters.specs.declared.table.Filters.{Filters}
 use Rattle.content_filters.specs.declared.change.Step.{Step}
 use Rattle.content_filters.specs.declared.change.Step.TheVariants.{AddCondition, AddFilter, SetStatements, SetBlock, Nothing}
 use Rattle.content_filters.specs.declared.change.FilterChange.{FilterChange}
-use Rattle.content_filters.specs.Reasons.{is_filter_command, filter_denial}
+use Rattle.content_filters.specs.Reasons.{is_filter_command, judge_denial}
 
 -- the tables keep the same
 pub record IsAlike (t r : Filters) : Type 0 where
@@ -28,10 +27,10 @@ IsStep (SetStatements filter statements) given = given ≡ command.SetFilter fil
 IsStep (SetBlock filter on) given = given ≡ command.SetBlock filter on
 IsStep Nothing given = is_filter_command given ≡ false
 
--- the change is that of the command, which is allowed by these facts
-pub record IsFor (change : FilterChange) (given : Command) (condition : Bytes → Option Condition) (count : ℕ) (fs : List Filter) : Type 0 where
+-- the change is that of the command, which the list allows
+pub record IsFor (change : FilterChange) (given : Command) (h : History) : Type 0 where
   pub step : IsStep change.step given
-  pub allowed : filter_denial condition count fs given ≡ None
+  pub allowed : judge_denial h given ≡ None
 
 -- the table has the memory for the step
 abbrev pub HasRoomFor : Filters → Step → Type 0

@@ -1,5 +1,5 @@
 -- What operators say of folded texts.
-use Rattle.std.specs.Prelude.{ℕ, Bool, false, not, nat_eq, ◌+◌, [], ◌∷◌, List, if◌then◌else◌, min}
+use Rattle.std.specs.Prelude.{ℕ, Bool, false, not, nat_eq, nat_lt, ◌+◌, [], List, if◌then◌else◌}
 use Rattle.std.specs.List.{starts_with, ends_with}
 use Rattle.news_types.specs.declared.words.Op.{Op}
 use Rattle.news_types.specs.declared.words.Op.TheVariants.{Like, NotLike, StartsWith, EndsWith}
@@ -18,6 +18,6 @@ compares_folded StartsWith text value = starts_with nat_eq text value
 compares_folded EndsWith text value = ends_with nat_eq text value
 compares_folded _ text value = false
 
--- an urgency as a digit, or the byte behind the digits
-abbrev pub urgency_text : ℕ → Bytes
-urgency_text urgency = (48 + min urgency 10) ∷ []
+-- an urgency as its digit, or the byte behind the digits
+abbrev pub urgency_byte : ℕ → ℕ
+urgency_byte urgency = if nat_lt 9 urgency then 58 else 48 + urgency

@@ -2,10 +2,7 @@
 use Rattle.std.specs.Prelude.{◌≡◌, ℕ, Bool, false, ◌&&◌, List, [], ◌∷◌, ◌++◌, length, Option, Some, None, option_and_then, slice_get, unwrap_or, if◌then◌else◌}
 use Rattle.std.specs.List.{list_any}
 use Rattle.std.specs.HashMap.{HashMap, get}
-use Rattle.std.specs.Ordering.{nat_cmp}
-use Rattle.std.specs.List.Sorted.{IsStrictlySortedBy}
-use Rattle.std.specs.Cmp.Lexicographic.{slice_cmp}
-use Rattle.news_types.specs.Names.{Bytes, same, is_in}
+use Rattle.news_types.specs.Names.{Bytes, same, is_in, AreInOrder}
 use Rattle.news_types.specs.Conditions.{Condition, is_true_if_there}
 use Rattle.news_types.specs.Filters.{Filter, has_filter}
 use Rattle.news_types.specs.declared.story.Story.{Story}
@@ -50,10 +47,6 @@ truth condition story name = is_true_if_there (condition name) story
 -- the filter of that name blocks every story that it matches
 abbrev pub is_block : List Filter → Bytes → Bool
 is_block fs name = list_any (λ (f : Filter). same f.name name && f.blocks) fs
-
--- in byte order, each but once
-abbrev pub AreInOrder : List Bytes → Type 0
-AreInOrder names = IsStrictlySortedBy (slice_cmp nat_cmp) names
 
 -- the names of the global blocks, in byte order
 pub record AreBlocks (fs : List Filter) (names : List Bytes) : Type 0 where

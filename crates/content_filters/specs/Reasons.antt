@@ -86,6 +86,10 @@ filter_denial condition count fs command = first_of (
 abbrev pub KeepsFacts : Filters → History → Type 0
 KeepsFacts t h = Keeps t (condition h) (condition_count h) (filters h)
 
+-- the first reason to deny the command, by the facts of the list
+abbrev pub judge_denial : History → Command → Option Denial
+judge_denial h command = filter_denial (condition h) (condition_count h) (filters h) command
+
 -- the first of these reasons by the list
 abbrev pub denial_by : History → Command → Option Denial
 denial_by h command = first_of (

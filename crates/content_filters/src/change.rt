@@ -1,22 +1,24 @@
 //! Changes of the table: their memory is taken first, and they are made later without any.
-ghost use Rattle.std.specs.Prelude.{◌≡◌, ◌+◌, ◌<◌, ℕ, List, ◌∷◌, Option, Some, None, IfOk, IsTrue, OnOk, map, true, false, if◌then◌else◌, slice_set, slice_index_or, vec_len, vec_capacity};
+ghost use Rattle.std.specs.Prelude.{◌≡◌, ◌+◌, ◌<◌, ℕ, List, ◌∷◌, Option, Some, None, IfOk, IsTrue, OnOk, map, filter, not, true, false, if◌then◌else◌, slice_set, slice_index_or, vec_len, vec_capacity};
 ghost use Rattle.std.specs.HashMap.{spare};
 ghost use Rattle.news_types.specs.Names.{Bytes, same};
-ghost use Rattle.news_types.specs.Conditions.{Condition, condition_after, conditions_added, is_condition};
-ghost use Rattle.news_types.specs.Filters.{Filter, changed, filters_after, has_filter};
+ghost use Rattle.news_types.specs.History.{History};
+ghost use Rattle.news_types.specs.Conditions.{Condition, is_condition};
+ghost use Rattle.news_types.specs.Filters.{Filter, changed, has_filter};
+ghost use Rattle.news_types.specs.declared.entry.Entry.{Entry};
+ghost use Rattle.news_types.specs.declared.entry.Act.TheVariants.{Request};
 ghost use Rattle.news_types.specs.declared.command.Command.{Command};
 ghost use Rattle.news_types.specs.declared.command.Command.TheVariants.{AddCondition, AddFilter, SetFilter, SetBlock};
 ghost use Rattle.content_filters.specs.declared.table.KeptFilter.{KeptFilter};
 ghost use Rattle.content_filters.specs.Kept.{condition_of};
 ghost use Rattle.content_filters.specs.Keeps.{Keeps};
-ghost use Rattle.content_filters.specs.Reasons.{filter_operand, filter_denial};
+ghost use Rattle.content_filters.specs.Reasons.{filter_operand, judge_denial, KeepsFacts};
 ghost use Rattle.content_filters.specs.Changes.{IsAlike, IsFor, IsStep, HasRoom, HasRoomFor};
 
-use crate::blocks::{insert_in_order, remove_name};
 use crate::condition::KeptCondition;
 use crate::places::{place_of, put_place, reserve_place};
 use crate::table::{Filters, KeptFilter};
-use news_types::{Command, Field, Memory, Name, Op, Statements, Texts};
+use news_types::{Command, Field, Memory, Name, Op, Statements, Texts, insert_in_order};
 
 /// What a change does.
 #[derive(Drop)]
@@ -50,10 +52,9 @@ impl Filters {
     /// where memory is wanting. A command on other things makes a change that does nothing.
     pub fn prepare(&mut self, command: &Command) -> Result<FilterChange, Memory>
         requires { filter_operand command.now ≡ None }
-        ensures stays { (condition : Bytes → Option Condition) (count : ℕ) (fs : List Filter) → Keeps self.old condition count fs → Keeps self.new condition count fs }
+        ensures stays { (h : History) → KeepsFacts self.old h → KeepsFacts self.new h }
         ensures room { IfOk result (λ change. HasRoom self.new change) }
-        ensures change { (condition : Bytes → Option Condition) (count : ℕ) (fs : List Filter) → filter_denial condition count fs command.now ≡ None
-            → IfOk result (λ change. IsFor change command.now condition count fs) }
+        ensures change { (h : History) → judge_denial h command.now ≡ None → IfOk result (λ change. IsFor change command.now h) }
     {
         let step = self.prepare_step(command)?;
         Ok(FilterChange { step })
@@ -62,8 +63,8 @@ impl Filters {
     /// Makes a change. It takes no memory. Nothing may have been committed since the change was prepared.
     pub fn commit(&mut self, change: FilterChange)
         requires { HasRoom self.old change }
-        ensures { (command : Command) (condition : Bytes → Option Condition) (count : ℕ) (fs : List Filter) → Keeps self.old condition count fs → IsFor change command condition count fs
-            → Keeps self.new (λ name. condition_after name command (condition name)) (count + conditions_added command) (filters_after command fs) }
+        ensures { (h : History) (e : Entry) (caller : Bytes) (number : ℕ) (command : Command) → KeepsFacts self.old h → IsFor change command h
+            → e.act ≡ Request caller number command → KeepsFacts self.new (e ∷ h) }
     {
         let FilterChange { step } = change;
         match step {
@@ -189,6 +190,13 @@ impl Filters {
             remove_name(&mut self.blocks, &filter);
         }
     }
+}
+
+/// Takes a name out, if it is there.
+fn remove_name(names: &mut Vec<Name>, name: &Name)
+    ensures { names.new.items ≡ filter (λ other. not (same other name.now)) names.old.items }
+{
+    names.retain(|other| *other != *name);
 }
 
 /// Gives the filter at a place other statements.

@@ -4,10 +4,10 @@ ghost use Rattle.news_types.specs.declared.story.Story.{Story};
 ghost use Rattle.news_types.specs.declared.words.Field.TheVariants.{Urgency};
 ghost use Rattle.news_types.specs.Names.{same, is_in};
 ghost use Rattle.news_types.specs.Conditions.{is_condition, is_folding_op, is_true_of, text_of, compares, first_value, first_byte};
-ghost use Rattle.content_filters.specs.Folded.{folded_value, compares_folded};
+ghost use Rattle.content_filters.specs.Folded.{folded_value, compares_folded, urgency_byte};
 
 use crate::folds::{FoldedField, begins_with, finishes_with, fold_once, folded_text, has_part};
-use crate::operands::{is_folding_op, media_word};
+use crate::operands::is_folding_op;
 use news_types::{Field, Memory, Op, Story, Text, Texts};
 use std::alloc::Global;
 
@@ -80,6 +80,14 @@ fn compares_folded(op: Op, text: &[u8], value: &[u8]) -> bool
     }
 }
 
+/// An urgency as its digit. One past 9 has none: it is compared as the byte behind the digits, as the values of
+/// such a condition are digits.
+fn urgency_byte(urgency: u8) -> u8
+    ensures { result ≡ urgency_byte urgency }
+{
+    if urgency > 9 { b':' } else { b'0' + urgency }
+}
+
 /// The text of a field other than the urgency.
 fn text_of(field: Field, story: &Story) -> &str
     ensures { field ≢ Urgency → result.now ≡ text_of field story.now }
@@ -91,7 +99,7 @@ fn text_of(field: Field, story: &Story) -> &str
         Field::Language => story.language.as_str(),
         Field::Category => story.category.as_str(),
         Field::Body => story.body.as_str(),
-        Field::Kind => media_word(story.kind),
+        Field::Kind => story.kind.word(),
         Field::Urgency => "",
     }
 }
@@ -138,9 +146,7 @@ impl KeptCondition {
     {
         let values = self.values.as_slice();
         if self.field == Field::Urgency {
-            // Values are digits: an urgency past 9 is compared as the byte behind them.
-            let digit = [b'0' + story.urgency.min(10)];
-            return Ok(compares(self.op, &digit, values));
+            return Ok(compares(self.op, &[urgency_byte(story.urgency)], values));
         }
         let text = text_of(self.field, story);
         if !is_folding_op(self.op) {

@@ -11,7 +11,7 @@ ghost use Rattle.news_types.specs.declared.rules.Statement.{Statement};
 ghost use Rattle.news_types.specs.declared.denial.Denial.TheVariants.{Limit};
 ghost use Rattle.news_types.specs.Denial.{unless, first_missing};
 ghost use Rattle.content_filters.specs.Keeps.{Keeps};
-ghost use Rattle.content_filters.specs.Reasons.{is_filter_command, filter_operand, filter_denial, KeepsFacts, denial_by, absent_in, is_filter_or};
+ghost use Rattle.content_filters.specs.Reasons.{is_filter_command, filter_operand, filter_denial, judge_denial, KeepsFacts, denial_by, absent_in, is_filter_or};
 ghost use Rattle.content_filters.specs.Asked.{has_place, is_below, names_below, first_thing, unknown_in, new_filter_denial, statements_denial};
 
 use crate::operands::{are_statements, is_condition};
@@ -38,8 +38,8 @@ impl Filters {
     /// names the filter itself or a newer one; an operand is wrong; the table is full. Every other command passes.
     /// It takes no memory.
     pub fn judge(&self, command: &Command) -> Result<(), FilterDenial>
-        ensures facts { (condition : Bytes → Option Condition) (count : ℕ) (fs : List Filter) → Keeps self.now condition count fs
-            → MatchResult result (λ _. filter_denial condition count fs command.now ≡ None) (λ e. filter_denial condition count fs command.now ≡ Some e.denial) }
+        ensures facts { (h : History) → KeepsFacts self.now h
+            → MatchResult result (λ _. judge_denial h command.now ≡ None) (λ e. judge_denial h command.now ≡ Some e.denial) }
         ensures list { (h : History) → KeepsFacts self.now h → is_filter_command command.now ≡ true
             → MatchResult result (λ _. denial_by h command.now ≡ None) (λ e. denial_by h command.now ≡ Some e.denial) }
         ensures operands { OnOk result (filter_operand command.now ≡ None) }
@@ -69,13 +69,7 @@ impl Filters {
                 self.statements_denial(filter, statements.as_slice())
             }
             Command::SetBlock { filter, .. } => {
-                if self.has(filter) {
-                    None
-                } else {
-                    Some(Denial::UnknownThing {
-                        thing: Thing::Filter,
-                    })
-                }
+                Denial::unless_there(Thing::Filter, self.has_filter(filter))
             }
             _ => None,
         }
@@ -93,7 +87,7 @@ impl Filters {
         if !is_condition(field, op, values) {
             return Some(Denial::BadOperand);
         }
-        full(Thing::Condition, self.conditions.len(), MOST_CONDITIONS)
+        Denial::unless_below(Thing::Condition, self.conditions.len(), MOST_CONDITIONS)
     }
 
     /// The first reason to deny a new filter.
@@ -113,7 +107,7 @@ impl Filters {
         if !are_statements(statements) {
             return Some(Denial::BadOperand);
         }
-        full(Thing::Filter, self.filters.len(), MOST_FILTERS)
+        Denial::unless_below(Thing::Filter, self.filters.len(), MOST_FILTERS)
     }
 
     /// The first reason to deny a filter other statements.
@@ -162,19 +156,6 @@ impl Filters {
         }
         None
     }
-}
-
-/// That a table of so many is full.
-fn full(which: Thing, count: usize, limit: u32) -> Option<Denial>
-    ensures { result ≡ unless (nat_lt count limit) (Limit which limit) }
-{
-    if count < limit as usize {
-        return None;
-    }
-    Some(Denial::Limit {
-        which,
-        number: limit,
-    })
 }
 
 /// Whether each of the names has a place.

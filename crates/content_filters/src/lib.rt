@@ -2,7 +2,6 @@
 //! that they match.
 #![tactic(auto)]
 
-mod blocks;
 mod change;
 mod condition;
 mod folds;

@@ -2,7 +2,7 @@
 ghost use Rattle.std.specs.Prelude.{◌≡◌, ◌&&◌, ◌==◌, length, nat_lt, if◌then◌else◌};
 ghost use Rattle.std.specs.List.{list_all};
 ghost use Rattle.news_types.specs.Names.{is_in};
-ghost use Rattle.news_types.specs.Conditions.{is_condition, fits_field, is_number_op, is_folding_op, takes_list, is_digit, media_word, media_words};
+ghost use Rattle.news_types.specs.Conditions.{is_condition, fits_field, is_number_op, is_folding_op, takes_list, is_digit, media_words};
 ghost use Rattle.news_types.specs.Filters.{names_something, are_statements};
 
 use news_types::{Field, Media, Op, Statement, Text};
@@ -42,30 +42,16 @@ fn are_digits(values: &[Text]) -> bool
     values.iter().all(|value| is_digit(value.as_str()))
 }
 
-/// The word of a story's kind.
-pub(crate) fn media_word(kind: Media) -> &'static str
-    ensures { result.now ≡ media_word kind }
-{
-    match kind {
-        Media::Text => "text",
-        Media::Audio => "audio",
-        Media::Video => "video",
-        Media::Picture => "picture",
-        Media::Graphic => "graphic",
-        Media::Composite => "composite",
-    }
-}
-
 /// Whether it is the word of some kind, as it is given.
 fn is_media_word(value: &str) -> bool
     ensures { result ≡ is_in value.now media_words }
 {
-    value == media_word(Media::Text)
-        || value == media_word(Media::Audio)
-        || value == media_word(Media::Video)
-        || value == media_word(Media::Picture)
-        || value == media_word(Media::Graphic)
-        || value == media_word(Media::Composite)
+    value == Media::Text.word()
+        || value == Media::Audio.word()
+        || value == Media::Video.word()
+        || value == Media::Picture.word()
+        || value == Media::Graphic.word()
+        || value == Media::Composite.word()
 }
 
 /// Whether each value is the word of some kind.

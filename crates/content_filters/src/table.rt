@@ -2,11 +2,13 @@
 ghost use Rattle.std.specs.Prelude.{◌≡◌, ℕ, List, [], Option, None, IfOk, map};
 ghost use Rattle.std.specs.List.{list_any, list_all};
 ghost use Rattle.news_types.specs.Names.{Bytes};
-ghost use Rattle.news_types.specs.Conditions.{Condition, is_true_of};
-ghost use Rattle.news_types.specs.Filters.{Filter, has_filter, holds, matches_by};
+ghost use Rattle.news_types.specs.History.{History};
+ghost use Rattle.news_types.specs.Conditions.{Condition, condition, is_true_of};
+ghost use Rattle.news_types.specs.Filters.{Filter, filters, has_filter, is_filter, holds, matches};
 ghost use Rattle.news_types.specs.declared.story.Story.{Story};
-ghost use Rattle.content_filters.specs.Kept.{condition_of, verdict_at, truth, AreBlocks};
+ghost use Rattle.content_filters.specs.Kept.{condition_of, verdict_at, AreBlocks};
 ghost use Rattle.content_filters.specs.Keeps.{Keeps, AreVerdicts, judged};
+ghost use Rattle.content_filters.specs.Reasons.{KeepsFacts};
 
 use crate::condition::KeptCondition;
 use crate::places::{place_of, verdict_at};
@@ -39,7 +41,7 @@ pub struct Filters {
 impl Filters {
     /// With nothing in it.
     pub fn new(alloc: Global) -> Result<Filters, Memory>
-        ensures { IfOk result (λ filters. Keeps filters (λ _. None) 0 []) }
+        ensures { IfOk result (λ filters. KeepsFacts filters []) }
     {
         Ok(Filters {
             alloc,
@@ -51,8 +53,22 @@ impl Filters {
         })
     }
 
+    /// Where its memory comes from.
+    pub fn allocator(&self) -> Global
+        ensures { result ≡ self.now.alloc }
+    {
+        self.alloc
+    }
+
     /// Whether the filter is there. It takes no memory.
     pub fn has(&self, filter: &Name) -> bool
+        ensures { (h : History) → KeepsFacts self.now h → result ≡ is_filter h filter.now }
+    {
+        self.has_filter(filter)
+    }
+
+    /// Whether the filter is there.
+    pub(crate) fn has_filter(&self, filter: &Name) -> bool
         ensures { (condition : Bytes → Option Condition) (count : ℕ) (fs : List Filter) → Keeps self.now condition count fs → result ≡ has_filter filter.now fs }
     {
         place_of(&self.filter_places, filter).is_some()
@@ -60,7 +76,7 @@ impl Filters {
 
     /// The global blocks, in byte order. It takes no memory.
     pub fn blocks(&self) -> &[Name]
-        ensures { (condition : Bytes → Option Condition) (count : ℕ) (fs : List Filter) → Keeps self.now condition count fs → AreBlocks fs result.now }
+        ensures { (h : History) → KeepsFacts self.now h → AreBlocks (filters h) result.now }
     {
         self.blocks.as_slice()
     }
@@ -70,8 +86,7 @@ impl Filters {
     ///
     /// Who asks for many filters of one story asks for its `verdicts` once.
     pub fn matches(&self, filter: &Name, story: &Story) -> Result<bool, Memory>
-        ensures { IfOk result (λ answer. (condition : Bytes → Option Condition) (count : ℕ) (fs : List Filter) → Keeps self.now condition count fs
-            → answer ≡ matches_by (truth condition story.now) fs filter.now) }
+        ensures { IfOk result (λ answer. (h : History) → KeepsFacts self.now h → answer ≡ matches h filter.now story.now) }
     {
         let verdicts = self.verdicts(story)?;
         Ok(self.matches_with(filter, &verdicts))
@@ -80,8 +95,7 @@ impl Filters {
     /// The truth of every condition for the story, and then of every filter in the order of age. Each field of the
     /// story is folded at most once, and each condition and each filter is judged once.
     pub fn verdicts(&self, story: &Story) -> Result<Verdicts, Memory>
-        ensures { IfOk result (λ verdicts. (condition : Bytes → Option Condition) (count : ℕ) (fs : List Filter) → Keeps self.now condition count fs
-            → AreVerdicts verdicts self.now condition fs story.now) }
+        ensures { IfOk result (λ verdicts. (h : History) → KeepsFacts self.now h → AreVerdicts verdicts self.now (condition h) (filters h) story.now) }
     {
         let conditions = self.condition_verdicts(story)?;
         let filters = self.filter_verdicts(conditions.as_slice())?;
@@ -93,8 +107,8 @@ impl Filters {
 
     /// Whether the filter matches the story for which the verdicts of this table were made. It takes no memory.
     pub fn matches_with(&self, filter: &Name, verdicts: &Verdicts) -> bool
-        ensures { (condition : Bytes → Option Condition) (count : ℕ) (fs : List Filter) (story : Story) → Keeps self.now condition count fs → AreVerdicts verdicts.now self.now condition fs story
-            → result ≡ matches_by (truth condition story) fs filter.now }
+        ensures { (h : History) (story : Story) → KeepsFacts self.now h → AreVerdicts verdicts.now self.now (condition h) (filters h) story
+            → result ≡ matches h filter.now story }
     {
         verdict_at(&self.filter_places, verdicts.filters.as_slice(), filter)
     }

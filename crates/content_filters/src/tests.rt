@@ -136,7 +136,7 @@ fn three_texts(alloc: Global, first: &str, second: &str, third: &str) -> Result<
     Ok(Three(first, second, third))
 }
 
-fn story_of(urgency: u8, first: Three, second: Three) -> Story {
+fn story_of(urgency: u8, first: Three, second: Three, copyright: Text) -> Story {
     let Three(slugline, headline, byline) = first;
     let Three(language, category, body) = second;
     Story {
@@ -149,6 +149,7 @@ fn story_of(urgency: u8, first: Three, second: Three) -> Story {
         category,
         body,
         html: false,
+        copyright,
     }
 }
 
@@ -156,7 +157,8 @@ fn story_of(urgency: u8, first: Three, second: Three) -> Story {
 fn story(alloc: Global, headline: &str, urgency: u8) -> Result<Story, Memory> {
     let first = three_texts(alloc, "fire", headline, "")?;
     let second = three_texts(alloc, "de", "i", "At dawn.\nNobody was hurt.")?;
-    Ok(story_of(urgency, first, second))
+    let copyright = Text::copy_of(alloc, "")?;
+    Ok(story_of(urgency, first, second, copyright))
 }
 
 /// What the filter says of a story, asked alone and by the verdicts.
@@ -168,7 +170,7 @@ fn answer(rt: &impl Abort, table: &Filters, word: &str, story: &Story) -> Result
     Ok(answer)
 }
 
-const FOLDING: [(Row, Option<Denial>); 4] = [
+const FOLDING: [(Row, Option<Denial>); 6] = [
     (
         Row::Condition("fire", Field::Headline, Op::Like, &["FIRE"]),
         None,
@@ -177,25 +179,39 @@ const FOLDING: [(Row, Option<Denial>); 4] = [
         Row::Condition("street", Field::Headline, Op::StartsWith, &["STRASSE"]),
         None,
     ),
+    (
+        Row::Condition("city", Field::Headline, Op::EndsWith, &["\u{130}zmir"]),
+        None,
+    ),
     (Row::Filter("f1", &[(&["fire"], &[])]), None),
     (Row::Filter("f2", &[(&["street"], &[])]), None),
+    (Row::Filter("f3", &[(&["city"], &[])]), None),
 ];
 
-const HEADLINES: [(&str, bool, bool); 4] = [
-    ("fire in Strasse", true, false),
-    ("straße", false, true),
-    ("Straße am FIREwall", true, true),
-    ("", false, false),
+// Unicode folds the long and the short sharp s to `ss`, the ligature to `fi`, and the capital I with a dot to an i with
+// a combining dot.
+const HEADLINES: [(&str, bool, bool, bool); 9] = [
+    ("fire in Strasse", true, false, false),
+    ("straße", false, true, false),
+    ("Straße am FIREwall", true, true, false),
+    ("STRA\u{1e9e}E", false, true, false),
+    ("Stra\u{1e9e}e, \u{fb01}re", true, true, false),
+    ("\u{fb01}re in \u{130}ZM\u{130}R", true, false, false),
+    ("Fire in i\u{307}zmir", true, false, true),
+    ("\u{130}ZMIR", false, false, true),
+    ("", false, false, false),
 ];
 
-/// What the two filters say of stories with these headlines.
+/// What the three filters say of stories with these headlines.
 fn look_at_headlines(rt: &impl Abort, alloc: Global, table: &Filters) -> Result<(), Memory> {
-    for (headline, first, second) in HEADLINES.iter() {
+    for (headline, first, second, third) in HEADLINES.iter() {
         let story = story(alloc, headline, 0)?;
         let one = answer(rt, table, "f1", &story)?;
         let two = answer(rt, table, "f2", &story)?;
+        let three = answer(rt, table, "f3", &story)?;
         assert_eq!(rt; one, *first, "{headline}");
         assert_eq!(rt; two, *second, "{headline}");
+        assert_eq!(rt; three, *third, "{headline}");
     }
     Ok(())
 }

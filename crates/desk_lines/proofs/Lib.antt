@@ -1,3 +1,2 @@
 mod Reading
-mod Plain
-mod Listed
+mod Fronts

@@ -1,13 +1,11 @@
--- Texts that are JSON, and lists that are read from their front.
-use Rattle.std.specs.Prelude.{◌≡◌, ◌++◌, ℕ, List, Bool, true, false, cond, Option, Some, None, Result, Ok, Err, IsUtf8}
+-- Texts that are JSON.
+use Rattle.std.specs.Prelude.{◌≡◌, ℕ, List, true, false, cond, Some, None, IsUtf8}
 use Rattle.std.specs.Str.{is_utf8}
 use Rattle.std.proofs.Common.{refl, ◌∙◌}
 use Rattle.std.proofs.lemmas.Bool.{cond-true}
 use Rattle.std.proofs.lemmas.Str.{IsUtf8-from_is_utf8, is_utf8-from_IsUtf8}
 use Rattle.serde_json.specs.Data.{Data}
 use Rattle.serde_json.specs.Read.{read}
-use Rattle.news_types.specs.Names.{Bytes}
-use Rattle.desk_lines.specs.declared.property.LineProperty.{LineProperty}
 use Rattle.desk_lines.specs.Reading.{json_of}
 
 pub json_of-some : (bytes : List ℕ) (d : Data) → IsUtf8 bytes → read bytes ≡ Some d → json_of bytes ≡ Some d
@@ -16,8 +14,3 @@ json_of-some bytes d text is = cond-true _ _ _ (is_utf8-from_IsUtf8 bytes text) 
 pub json_of-none : (bytes : List ℕ) → (IsUtf8 bytes → read bytes ≡ None) → json_of bytes ≡ None
 json_of-none bytes h =
     elim (is_utf8 bytes) as (λ b. is_utf8 bytes ≡ b → cond b (read bytes) None ≡ None) [ true ↦ λ e. h (IsUtf8-from_is_utf8 bytes e) | false ↦ λ e. refl ] refl
-
--- what was read before
-abbrev pub add_front : List Bytes → Result (List Bytes) LineProperty → Result (List Bytes) LineProperty
-add_front front (Ok names) = Ok (front ++ names)
-add_front front (Err p) = Err p

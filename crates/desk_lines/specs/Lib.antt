@@ -1,5 +1,8 @@
-pub mod Words
+pub mod Properties
 pub mod Reading
-pub mod Fields
+pub mod Forms
+pub mod Words
+pub mod Objects
+pub mod Rows
+pub mod Commands
 pub mod Lines
-pub mod Answers

@@ -1,125 +1,96 @@
--- What a line says: a request or a question, or the first property that is bad.
-use Rattle.std.specs.Prelude.{ℕ, ◌^◌, Bool, true, false, List, [], ◌∷◌, codes, if◌then◌else◌, Option, Some, None, is_some, Result, Ok, Err}
-use Rattle.serde_json.specs.Data.{Data, Members}
-use Rattle.serde_json.specs.Find.{get, as_object}
+-- What a line says: a request, a question or a receipt, or the first property that is bad.
+use Rattle.std.specs.Prelude.{ℕ, Bool, List, [], ◌∷◌, length, nat_le, is_some, if◌then◌else◌, Option, Some, None, Result, Ok, Err}
+use Rattle.serde_json.specs.Data.{Data}
+use Rattle.serde_json.specs.Find.{as_object}
 use Rattle.news_types.specs.declared.story.Story.{Story}
-use Rattle.news_types.specs.declared.command.Command.{Command}
-use Rattle.news_types.specs.declared.command.Command.TheVariants.{AddSubscriber, Flash}
-use Rattle.news_types.specs.declared.query.Query.{Query}
 use Rattle.news_types.specs.declared.query.Query.TheVariants as query
-use Rattle.news_types.specs.Names.{Bytes, same}
+use Rattle.news_types.specs.Names.{Bytes}
+use Rattle.news_types.specs.FitsCommands.{FitsCommand}
 use Rattle.desk_lines.specs.declared.property.LineProperty.{LineProperty}
-use Rattle.desk_lines.specs.declared.property.LineProperty.TheVariants as property
-use Rattle.desk_lines.specs.declared.lines.Asked.{Asked}
-use Rattle.desk_lines.specs.declared.lines.Asked.TheVariants as asked
-use Rattle.desk_lines.specs.Reading.{then_read, json_of}
-use Rattle.desk_lines.specs.Fields.{given, whole, whole_or, flag_or, text_or, word, name, names_or, media_or_text, format_given}
+use Rattle.desk_lines.specs.declared.property.LineProperty.TheVariants as the
+use Rattle.desk_lines.specs.declared.asked.Asked.{Asked}
+use Rattle.desk_lines.specs.declared.asked.Asked.TheVariants as asked
+use Rattle.desk_lines.specs.Reading.{Says, then_read, ◌>>=◌, gives, property, needs, inside, json_of}
+use Rattle.desk_lines.specs.Forms.{whole, any_text, name, ◌means◌}
+use Rattle.desk_lines.specs.Rows.{Row, by_word}
+use Rattle.desk_lines.specs.Objects.{story}
+use Rattle.desk_lines.specs.Commands.{command, an_item}
 
--- a story is an object; each of its properties has a default
-abbrev pub story_of : Data → Result Story LineProperty
-story_of d =
-    then_read (media_or_text (get (codes "kind") d)) (λ kind.
-    then_read (whole_or 0 10 property.Urgency (get (codes "urgency") d)) (λ urgency.
-    then_read (text_or 500 property.Slugline (get (codes "slugline") d)) (λ slugline.
-    then_read (text_or 500 property.Headline (get (codes "headline") d)) (λ headline.
-    then_read (text_or 500 property.Byline (get (codes "byline") d)) (λ byline.
-    then_read (text_or 35 property.Language (get (codes "language") d)) (λ language.
-    then_read (text_or 3 property.Category (get (codes "category") d)) (λ category.
-    then_read (text_or 262144 property.Body (get (codes "body") d)) (λ body.
-    then_read (flag_or false property.Html (get (codes "html") d)) (λ html.
-    Ok (record {
-      kind = kind;
-      urgency = urgency;
-      slugline = slugline;
-      headline = headline;
-      byline = byline;
-      language = language;
-      category = category;
-      body = body;
-      html = html;
-    }))))))))))
+-- ---- requests
 
-abbrev pub if_object : Option Members → Data → Result Story LineProperty
-if_object None d = Err property.Story
-if_object (Some ms) d = story_of d
+-- a request of this caller
+unfoldable pub request_of : Bytes → Says Asked
+request_of caller = do
+  number ← needs the.Number (whole 18446744073709551615)
+  word ← needs the.Do any_text
+  found ← command word
+  gives (asked.Request caller number found)
 
-abbrev pub story : Option Data → Result Story LineProperty
-story None = Err property.Story
-story (Some d) = if_object (as_object d) d
+unfoldable pub request : Says Asked
+request = do caller ← needs the.By name; request_of caller
 
--- ---- commands
+-- ---- questions
 
--- so far a subscriber has the product `all` and no other
-abbrev pub only_all : List Bytes → Result (List Bytes) LineProperty
-only_all (first ∷ []) = if same first (codes "all") then Ok (first ∷ []) else Err property.Products
-only_all _ = Err property.Products
+abbrev pub question_rows : List (Row Asked)
+question_rows =
+    ("feed" means do
+      subscriber ← needs the.Subscriber name
+      after ← needs the.After (whole 4294967295)
+      gives (asked.Query (query.Feed subscriber after))) ∷
+    ("item" means do item ← an_item; gives (asked.Query (query.Item item))) ∷
+    ("queue" means gives (asked.Query query.Queue)) ∷
+    ("check" means gives (asked.Query query.Check)) ∷ []
 
--- so far a story goes to everyone
-abbrev pub only_none : List Bytes → Result (List Bytes) LineProperty
-only_none [] = Ok []
-only_none _ = Err property.Targets
+unfoldable pub question : Says Asked
+question = do word ← needs the.Ask any_text; (λ d. by_word question_rows word d (Err the.Ask))
 
-abbrev pub add_subscriber : Data → Result Command LineProperty
-add_subscriber d =
-    then_read (name property.Subscriber (get (codes "subscriber") d)) (λ subscriber.
-    then_read (format_given (get (codes "format") d)) (λ chosen.
-    then_read (names_or property.Products (get (codes "products") d)) (λ listed.
-    then_read (only_all listed) (λ products.
-    Ok (AddSubscriber subscriber chosen products)))))
+-- ---- receipts
 
-abbrev pub flash : Data → Result Command LineProperty
-flash d =
-    then_read (story (get (codes "story") d)) (λ text.
-    then_read (names_or property.Targets (get (codes "targets") d)) (λ listed.
-    then_read (only_none listed) (λ targets.
-    Ok (Flash text targets))))
+unfoldable pub receipt_of : Bytes → Says Asked
+receipt_of subscriber = do n ← needs the.N (whole 4294967295); gives (asked.Receipt subscriber n)
 
--- the word of a command that is not built is a bad `do`
-abbrev pub command : Bytes → Data → Result Command LineProperty
-command text d =
-    if same text (codes "add_subscriber") then add_subscriber d
-    else (if same text (codes "flash") then flash d
-    else Err property.Do)
+unfoldable pub receipt : Says Asked
+receipt = inside the.Receipt (do subscriber ← needs the.Subscriber name; receipt_of subscriber)
 
 -- ---- lines
 
-abbrev pub request : Data → Result Asked LineProperty
-request d =
-    then_read (name property.By (get (codes "by") d)) (λ caller.
-    then_read (whole (2 ^ 64) property.Number (get (codes "number") d)) (λ number.
-    then_read (word property.Do (get (codes "do") d)) (λ text.
-    then_read (command text d) (λ found.
-    Ok (asked.Request caller number found)))))
+abbrev pub has : LineProperty → Data → Bool
+has p d = is_some (property p d)
 
-abbrev pub feed : Data → Result Asked LineProperty
-feed d =
-    then_read (name property.Subscriber (get (codes "subscriber") d)) (λ subscriber.
-    then_read (whole (2 ^ 32) property.After (get (codes "after") d)) (λ after.
-    Ok (asked.Query (query.Feed subscriber after))))
+-- it is a request where it has a `do`, whatever that is, else a question, else a receipt
+unfoldable pub any : Says Asked
+any d =
+    if has the.Do d then request d
+    else if has the.Ask d then question d
+    else if has the.Receipt d then receipt d
+    else Err the.Line
 
-abbrev pub question_by : Bytes → Data → Result Asked LineProperty
-question_by text d =
-    if same text (codes "feed") then feed d
-    else (if same text (codes "check") then Ok (asked.Query query.Check)
-    else Err property.Ask)
+abbrev pub if_object : Option Data → Result Data LineProperty
+if_object None = Err the.Line
+if_object (Some d) = if is_some (as_object d) then Ok d else Err the.Line
 
-abbrev pub question : Data → Result Asked LineProperty
-question d = then_read (word property.Ask (get (codes "ask") d)) (λ text. question_by text d)
-
--- a line is an object with `do`, else with `ask`
-abbrev pub object_line : Data → Result Asked LineProperty
-object_line d =
-    if is_some (get (codes "do") d) then request d
-    else (if is_some (get (codes "ask") d) then question d
-    else Err property.Line)
-
-abbrev pub if_members : Option Members → Data → Result Asked LineProperty
-if_members None d = Err property.Line
-if_members (Some ms) d = object_line d
-
-abbrev pub data_line : Option Data → Result Asked LineProperty
-data_line None = Err property.Line
-data_line (Some d) = if_members (as_object d) d
+-- an object in at most 4194304 bytes
+unfoldable pub object_in : List ℕ → Result Data LineProperty
+object_in bytes = if nat_le (length bytes) 4194304 then if_object (json_of bytes) else Err the.Line
 
 abbrev pub line : List ℕ → Result Asked LineProperty
-line bytes = data_line (json_of bytes)
+line bytes = then_read (object_in bytes) any
+
+-- a request whose caller is known
+unfoldable pub only_request : Bytes → Says Asked
+only_request caller d = if has the.Do d then request_of caller d else Err the.Line
+
+abbrev pub request_body : Bytes → List ℕ → Result Asked LineProperty
+request_body caller bytes = then_read (object_in bytes) (only_request caller)
+
+abbrev pub receipt_body : Bytes → List ℕ → Result Asked LineProperty
+receipt_body subscriber bytes = then_read (object_in bytes) (receipt_of subscriber)
+
+abbrev pub story_object : List ℕ → Result Story LineProperty
+story_object bytes = then_read (object_in bytes) story
+
+-- ---- what is read is within the limits
+
+abbrev pub FitsAsked : Asked → Type 0
+FitsAsked (asked.Request caller number found) = FitsCommand found
+FitsAsked _ = Unit {0}

@@ -1,125 +1,52 @@
--- The words of lines and answers.
-use Rattle.std.specs.Prelude.{ℕ, List, codes}
-use Rattle.news_types.specs.declared.words.Kind.{Kind}
-use Rattle.news_types.specs.declared.words.Kind.TheVariants as kind
-use Rattle.news_types.specs.declared.words.State.{State}
-use Rattle.news_types.specs.declared.words.State.TheVariants as state
-use Rattle.news_types.specs.declared.words.Privilege.{Privilege}
-use Rattle.news_types.specs.declared.words.Privilege.TheVariants as privilege
-use Rattle.news_types.specs.declared.words.Thing.{Thing}
-use Rattle.news_types.specs.declared.words.Thing.TheVariants as thing
-use Rattle.news_types.specs.declared.denial.Denial.{Denial}
-use Rattle.news_types.specs.declared.denial.Denial.TheVariants.{OutOfTurn, NumberUsed, UnknownUser, NoPrivilege, UnknownThing, NameTaken, NotMember, WrongState, NotLocked, LockedBy, NotReleased, AlreadyReleased, BothTimes, PastMoment, ReceiptAhead, NotPaused, FilterOrder, BadOperand, Limit}
-use Rattle.desk_lines.specs.declared.property.LineProperty.{LineProperty}
-use Rattle.desk_lines.specs.declared.property.LineProperty.TheVariants as property
+-- The words of commands.
+use Rattle.std.specs.Prelude.{ℕ, List, [], ◌∷◌}
+use Rattle.news_types.specs.declared.words.Media.{Media}
+use Rattle.news_types.specs.declared.words.Media.TheVariants as media
+use Rattle.news_types.specs.declared.words.Format.{Format}
+use Rattle.news_types.specs.declared.words.Format.TheVariants as format
+use Rattle.news_types.specs.declared.words.How.{How}
+use Rattle.news_types.specs.declared.words.How.TheVariants as how
+use Rattle.news_types.specs.declared.words.Field.{Field}
+use Rattle.news_types.specs.declared.words.Field.TheVariants as field
+use Rattle.news_types.specs.declared.words.Op.{Op}
+use Rattle.news_types.specs.declared.words.Op.TheVariants as op
+use Rattle.news_types.specs.Names.{Bytes}
+use Rattle.desk_lines.specs.Forms.{◌means◌}
 
-abbrev pub kind_word : Kind → List ℕ
-kind_word kind.First = codes "first"
-kind_word kind.Correct = codes "correct"
-kind_word kind.Kill = codes "kill"
-kind_word kind.Recall = codes "recall"
+-- what a story is
+abbrev pub media_words : List (Bytes × Media)
+media_words =
+    ("text" means media.Text) ∷ ("audio" means media.Audio) ∷ ("video" means media.Video) ∷
+    ("picture" means media.Picture) ∷ ("graphic" means media.Graphic) ∷ ("composite" means media.Composite) ∷ []
 
-abbrev pub state_word : State → List ℕ
-state_word state.Draft = codes "draft"
-state_word state.Ingested = codes "ingested"
-state_word state.Routed = codes "routed"
-state_word state.Fetched = codes "fetched"
-state_word state.Submitted = codes "submitted"
-state_word state.InProgress = codes "in_progress"
-state_word state.Spiked = codes "spiked"
-state_word state.Scheduled = codes "scheduled"
-state_word state.Published = codes "published"
-state_word state.Corrected = codes "corrected"
-state_word state.Killed = codes "killed"
-state_word state.Recalled = codes "recalled"
+-- the form of a subscriber's feed
+abbrev pub format_words : List (Bytes × Format)
+format_words = ("ninjs" means format.Ninjs) ∷ ("7901" means format.Text7901) ∷ []
 
-abbrev pub privilege_word : Privilege → List ℕ
-privilege_word privilege.Users = codes "users"
-privilege_word privilege.Desks = codes "desks"
-privilege_word privilege.Filters = codes "filters"
-privilege_word privilege.Subscribers = codes "subscribers"
-privilege_word privilege.Ingest = codes "ingest"
-privilege_word privilege.Write = codes "write"
-privilege_word privilege.Publish = codes "publish"
-privilege_word privilege.Kill = codes "kill"
-privilege_word privilege.Unlock = codes "unlock"
-privilege_word privilege.Stop = codes "stop"
+abbrev pub how_words : List (Bytes × How)
+how_words = ("permitting" means how.Permitting) ∷ ("blocking" means how.Blocking) ∷ []
 
-abbrev pub thing_word : Thing → List ℕ
-thing_word thing.User = codes "user"
-thing_word thing.Desk = codes "desk"
-thing_word thing.Stage = codes "stage"
-thing_word thing.Condition = codes "condition"
-thing_word thing.Filter = codes "filter"
-thing_word thing.Product = codes "product"
-thing_word thing.Subscriber = codes "subscriber"
-thing_word thing.Scheme = codes "scheme"
-thing_word thing.Provider = codes "provider"
-thing_word thing.Item = codes "item"
-thing_word thing.Publication = codes "publication"
+-- what a condition reads
+abbrev pub field_words : List (Bytes × Field)
+field_words =
+    ("slugline" means field.Slugline) ∷ ("headline" means field.Headline) ∷ ("byline" means field.Byline) ∷
+    ("language" means field.Language) ∷ ("category" means field.Category) ∷ ("body" means field.Body) ∷
+    ("urgency" means field.Urgency) ∷ ("kind" means field.Kind) ∷ []
 
--- a denial is written with its own name, and its place in their order
-abbrev pub denial_word : Denial → List ℕ
-denial_word (OutOfTurn expected) = codes "OutOfTurn"
-denial_word (NumberUsed kept) = codes "NumberUsed"
-denial_word UnknownUser = codes "UnknownUser"
-denial_word (NoPrivilege privilege) = codes "NoPrivilege"
-denial_word (UnknownThing thing) = codes "UnknownThing"
-denial_word NameTaken = codes "NameTaken"
-denial_word (NotMember desk) = codes "NotMember"
-denial_word (WrongState state) = codes "WrongState"
-denial_word NotLocked = codes "NotLocked"
-denial_word (LockedBy user session) = codes "LockedBy"
-denial_word (NotReleased release) = codes "NotReleased"
-denial_word (AlreadyReleased release) = codes "AlreadyReleased"
-denial_word BothTimes = codes "BothTimes"
-denial_word (PastMoment moment) = codes "PastMoment"
-denial_word (ReceiptAhead length) = codes "ReceiptAhead"
-denial_word NotPaused = codes "NotPaused"
-denial_word FilterOrder = codes "FilterOrder"
-denial_word BadOperand = codes "BadOperand"
-denial_word (Limit which number) = codes "Limit"
+-- how it compares
+abbrev pub op_words : List (Bytes × Op)
+op_words =
+    ("eq" means op.Eq) ∷ ("ne" means op.Ne) ∷ ("in" means op.Within) ∷ ("nin" means op.Nin) ∷
+    ("like" means op.Like) ∷ ("notlike" means op.NotLike) ∷ ("startswith" means op.StartsWith) ∷ ("endswith" means op.EndsWith) ∷
+    ("lt" means op.Lt) ∷ ("lte" means op.Lte) ∷ ("gt" means op.Gt) ∷ ("gte" means op.Gte) ∷ []
 
-abbrev pub denial_number : Denial → ℕ
-denial_number (OutOfTurn expected) = 1
-denial_number (NumberUsed kept) = 2
-denial_number UnknownUser = 3
-denial_number (NoPrivilege privilege) = 4
-denial_number (UnknownThing thing) = 5
-denial_number NameTaken = 6
-denial_number (NotMember desk) = 7
-denial_number (WrongState state) = 8
-denial_number NotLocked = 9
-denial_number (LockedBy user session) = 10
-denial_number (NotReleased release) = 11
-denial_number (AlreadyReleased release) = 12
-denial_number BothTimes = 13
-denial_number (PastMoment moment) = 14
-denial_number (ReceiptAhead length) = 15
-denial_number NotPaused = 16
-denial_number FilterOrder = 17
-denial_number BadOperand = 18
-denial_number (Limit which number) = 19
+-- what a user may do, each with its bit
+abbrev pub privilege_bits : List (Bytes × ℕ)
+privilege_bits =
+    ("users" means 1) ∷ ("desks" means 2) ∷ ("filters" means 4) ∷ ("subscribers" means 8) ∷ ("ingest" means 16) ∷
+    ("write" means 32) ∷ ("publish" means 64) ∷ ("kill" means 128) ∷ ("unlock" means 256) ∷ ("stop" means 512) ∷ []
 
--- the properties that a line may have, as they are written
-abbrev pub property_word : LineProperty → List ℕ
-property_word property.Line = codes "line"
-property_word property.By = codes "by"
-property_word property.Number = codes "number"
-property_word property.Do = codes "do"
-property_word property.Ask = codes "ask"
-property_word property.Subscriber = codes "subscriber"
-property_word property.After = codes "after"
-property_word property.Format = codes "format"
-property_word property.Products = codes "products"
-property_word property.Story = codes "story"
-property_word property.Targets = codes "targets"
-property_word property.Kind = codes "kind"
-property_word property.Urgency = codes "urgency"
-property_word property.Slugline = codes "slugline"
-property_word property.Headline = codes "headline"
-property_word property.Byline = codes "byline"
-property_word property.Language = codes "language"
-property_word property.Category = codes "category"
-property_word property.Body = codes "body"
-property_word property.Html = codes "html"
+-- Monday to Sunday, each with its bit
+abbrev pub day_bits : List (Bytes × ℕ)
+day_bits =
+    ("mon" means 1) ∷ ("tue" means 2) ∷ ("wed" means 4) ∷ ("thu" means 8) ∷ ("fri" means 16) ∷ ("sat" means 32) ∷ ("sun" means 64) ∷ []

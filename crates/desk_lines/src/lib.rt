@@ -1,20 +1,21 @@
-//! The lines of a batch: requests and questions are read from JSON, and answers written.
+//! The lines of a batch are read: requests, questions and receipts, each one JSON object.
 //!
-//! A line is one JSON object. What it says is the value of its properties, or the first of them, in the order in which a
-//! command lists them, that is missing, of the wrong type, or not of its form. Properties that are not named are passed
-//! over. An answer is compact JSON with its keys in byte order.
+//! What a line says is the value of its properties, or the first of them, in the order in which a command lists them, that
+//! is missing, of the wrong type, or not of its form. A list is judged whole, and then what stands in it, one object after
+//! another. Properties that are not named are passed over.
 #![tactic(auto)]
 
-mod answers;
+mod asked;
+mod commands;
 mod fields;
+mod forms;
 mod lines;
+mod objects;
 mod property;
-mod words;
-mod written;
 
-pub use answers::{answer_text, bad_text, denial_text, reply_text};
-pub use lines::{Asked, read_line};
-pub use property::{LineFault, LineProperty};
+pub use asked::Asked;
+pub use lines::{read_line, read_receipt_body, read_request_body, read_story};
+pub use property::{LineFault, LineProperty, word_of_property};
 
 #[cfg(test)]
 mod tests;

@@ -1,49 +1,92 @@
 //! Lines are read.
-ghost use Rattle.std.specs.Prelude.{◌≡◌, Some, None, Err, IfOk, codes};
-ghost use Rattle.serde_json.specs.Find.{get};
+ghost use Rattle.std.specs.Prelude.{◌≡◌, Some, None, Ok, IfOk};
 ghost use Rattle.serde_json.specs.View.{view};
-ghost use Rattle.desk_lines.specs.Reading.{IsRead, json_of};
+ghost use Rattle.news_types.specs.Fits.{FitsStory};
+ghost use Rattle.desk_lines.specs.Reading.{IsRead, IsReadAs, json_of};
 ghost use Rattle.desk_lines.specs.Lines as said;
+ghost use Rattle.desk_lines.specs.Lines.{FitsAsked};
 
-use crate::fields;
+use crate::asked::Asked;
+use crate::commands::{command, item};
+use crate::fields::{given, needs_any_text, needs_name, needs_whole};
+use crate::objects::story_of;
 use crate::property::{LineFault, LineProperty};
-use news_types::{Command, Name, Names, Query, Story};
+use news_types::{Name, Query, Story};
 use serde_json::Value;
 use std::alloc::Global;
 
-/// What a line asks for.
-#[derive(Drop)]
-pub enum Asked {
-    /// A request: who makes it, its number, and the command.
-    Request {
-        caller: Name,
-        number: u64,
-        command: Command,
-    },
-    /// A question on the list as it is.
-    Query(Query),
-    /// A receipt: the subscriber has so many entries of its feed.
-    Receipt {
-        subscriber: Name,
-        n: u32,
-    },
-}
+/// The most bytes that a line may have.
+const LONGEST_LINE: usize = 4_194_304;
 
 /// Reads a line without its line end.
+///
+/// # Errors
+///
+/// The first bad property; where there is no memory, `Memory` may come in its place.
 pub fn read_line(alloc: Global, line: &[u8]) -> Result<Asked, LineFault>
-    ensures { IsRead (said.line line.now) result }
+    ensures value { IsRead (said.line line.now) result }
+    ensures fits { IfOk result FitsAsked }
 {
-    let value = json_value(alloc, line)?;
-    if !value.is_object() {
-        return Err(LineFault::Bad(LineProperty::Line));
+    let object = object_in(alloc, line)?;
+    any(alloc, &object)
+}
+
+/// Reads a request of this caller: a line without `by`.
+///
+/// # Errors
+///
+/// As those of `read_line`; a line that is no request is bad itself.
+pub fn read_request_body(alloc: Global, caller: Name, body: &[u8]) -> Result<Asked, LineFault>
+    ensures value { IsRead (said.request_body caller body.now) result }
+    ensures fits { IfOk result FitsAsked }
+{
+    let object = object_in(alloc, body)?;
+    only_request(alloc, caller, &object)
+}
+
+/// Reads a receipt of this subscriber: an object with `n`.
+///
+/// # Errors
+///
+/// As those of `read_line`.
+pub fn read_receipt_body(alloc: Global, subscriber: Name, body: &[u8]) -> Result<Asked, LineFault>
+    ensures { IsRead (said.receipt_body subscriber body.now) result }
+{
+    let object = object_in(alloc, body)?;
+    Ok(receipt_of(subscriber, &object)?)
+}
+
+/// Reads an object with a story's properties.
+///
+/// # Errors
+///
+/// As those of `read_line`.
+pub fn read_story(alloc: Global, object: &[u8]) -> Result<Story, LineFault>
+    ensures value { IsRead (said.story_object object.now) result }
+    ensures fits { IfOk result FitsStory }
+{
+    let found = object_in(alloc, object)?;
+    story_of(alloc, &found)
+}
+
+/// The object of a line.
+#[tactic(auto, unfolding(crate::specs::Lines::object_in))]
+fn object_in(alloc: Global, bytes: &[u8]) -> Result<Value, LineFault>
+    ensures { IsReadAs view (said.object_in bytes.now) result }
+{
+    if bytes.len() > LONGEST_LINE {
+        return Err(LineFault::Bad {
+            property: LineProperty::Line,
+        });
     }
-    if value.get("do").is_some() {
-        return request(alloc, &value);
+    let value = json_value(alloc, bytes)?;
+    if value.is_object() {
+        Ok(value)
+    } else {
+        Err(LineFault::Bad {
+            property: LineProperty::Line,
+        })
     }
-    if value.get("ask").is_some() {
-        return Ok(question(&value)?);
-    }
-    Err(LineFault::Bad(LineProperty::Line))
 }
 
 fn json_value(alloc: Global, bytes: &[u8]) -> Result<Value, LineFault>
@@ -53,16 +96,62 @@ fn json_value(alloc: Global, bytes: &[u8]) -> Result<Value, LineFault>
     match Value::from_slice(alloc, bytes) {
         Ok(value) => Ok(value),
         Err(error) if error.is_memory() => Err(LineFault::Memory),
-        Err(_) => Err(LineFault::Bad(LineProperty::Line)),
+        Err(_) => Err(LineFault::Bad {
+            property: LineProperty::Line,
+        }),
     }
 }
 
-fn request(alloc: Global, object: &Value) -> Result<Asked, LineFault>
-    ensures { IsRead (said.request (view object.now)) result }
+/// A request where it has a `do`, whatever that is, else a question, else a receipt.
+#[tactic(auto, unfolding(crate::specs::Lines::any))]
+fn any(alloc: Global, object: &Value) -> Result<Asked, LineFault>
+    ensures value { IsRead (said.any (view object.now)) result }
+    ensures fits { IfOk result FitsAsked }
 {
-    let caller = fields::name(object, "by", LineProperty::By)?;
-    let number = fields::whole(object, "number", 1 << 64, LineProperty::Number)?;
-    let word = fields::word(object, "do", LineProperty::Do)?;
+    if given(object, LineProperty::Do).is_some() {
+        return request(alloc, object);
+    }
+    if given(object, LineProperty::Ask).is_some() {
+        return Ok(question(object)?);
+    }
+    if given(object, LineProperty::Receipt).is_some() {
+        return Ok(receipt(object)?);
+    }
+    Err(LineFault::Bad {
+        property: LineProperty::Line,
+    })
+}
+
+#[tactic(auto, unfolding(crate::specs::Lines::only_request))]
+fn only_request(alloc: Global, caller: Name, object: &Value) -> Result<Asked, LineFault>
+    ensures value { IsRead (said.only_request caller (view object.now)) result }
+    ensures fits { IfOk result FitsAsked }
+{
+    if given(object, LineProperty::Do).is_some() {
+        return request_of(alloc, caller, object);
+    }
+    Err(LineFault::Bad {
+        property: LineProperty::Line,
+    })
+}
+
+#[tactic(auto, unfolding(crate::specs::Lines::request))]
+fn request(alloc: Global, object: &Value) -> Result<Asked, LineFault>
+    ensures value { IsRead (said.request (view object.now)) result }
+    ensures fits { IfOk result FitsAsked }
+{
+    let caller = needs_name(object, LineProperty::By)?;
+    request_of(alloc, caller, object)
+}
+
+/// A request of this caller.
+#[tactic(auto, unfolding(crate::specs::Lines::request_of))]
+fn request_of(alloc: Global, caller: Name, object: &Value) -> Result<Asked, LineFault>
+    ensures value { IsRead (said.request_of caller (view object.now)) result }
+    ensures fits { IfOk result FitsAsked }
+{
+    let number = needs_whole(object, LineProperty::Number, u64::MAX)?;
+    let word = needs_any_text(object, LineProperty::Do)?;
     let command = command(alloc, word, object)?;
     Ok(Asked::Request {
         caller,
@@ -71,117 +160,49 @@ fn request(alloc: Global, object: &Value) -> Result<Asked, LineFault>
     })
 }
 
-fn command(alloc: Global, word: &str, object: &Value) -> Result<Command, LineFault>
-    ensures { IsRead (said.command word.now (view object.now)) result }
-{
-    match word {
-        "add_subscriber" => add_subscriber(alloc, object),
-        "flash" => flash(alloc, object),
-        _ => Err(LineFault::Bad(LineProperty::Do)),
-    }
-}
-
-fn add_subscriber(alloc: Global, object: &Value) -> Result<Command, LineFault>
-    ensures { IsRead (said.add_subscriber (view object.now)) result }
-{
-    let subscriber = fields::name(object, "subscriber", LineProperty::Subscriber)?;
-    let format = fields::format(object)?;
-    let listed = fields::names_or(alloc, object, "products", LineProperty::Products)?;
-    let products = only_all(listed)?;
-    Ok(Command::AddSubscriber {
-        subscriber,
-        format,
-        products,
-    })
-}
-
-/// So far a subscriber has the product `all` and no other.
-fn only_all(listed: Names) -> Result<Names, LineProperty>
-    ensures { result ≡ said.only_all listed }
-{
-    match listed.as_slice() {
-        [first] if first.as_str() == "all" => Ok(listed),
-        _ => Err(LineProperty::Products),
-    }
-}
-
-fn flash(alloc: Global, object: &Value) -> Result<Command, LineFault>
-    ensures { IsRead (said.flash (view object.now)) result }
-{
-    let story = story(alloc, object)?;
-    let listed = fields::names_or(alloc, object, "targets", LineProperty::Targets)?;
-    let targets = only_none(listed)?;
-    Ok(Command::Flash { story, targets })
-}
-
-/// So far a story goes to everyone.
-fn only_none(listed: Names) -> Result<Names, LineProperty>
-    ensures { result ≡ said.only_none listed }
-{
-    match listed.as_slice() {
-        [] => Ok(listed),
-        _ => Err(LineProperty::Targets),
-    }
-}
-
-fn story(alloc: Global, object: &Value) -> Result<Story, LineFault>
-    ensures { IsRead (said.story (get (codes "story") (view object.now))) result }
-{
-    match object.get("story") {
-        None => Err(LineFault::Bad(LineProperty::Story)),
-        Some(found) => {
-            if found.is_object() {
-                story_of(alloc, found)
-            } else {
-                Err(LineFault::Bad(LineProperty::Story))
-            }
-        }
-    }
-}
-
-fn story_of(alloc: Global, object: &Value) -> Result<Story, LineFault>
-    ensures { IsRead (said.story_of (view object.now)) result }
-{
-    let kind = fields::media_or_text(object)?;
-    let urgency = fields::whole_or(object, "urgency", 0, 10, LineProperty::Urgency)?;
-    let slugline = fields::copied_text(alloc, object, "slugline", 500, LineProperty::Slugline)?;
-    let headline = fields::copied_text(alloc, object, "headline", 500, LineProperty::Headline)?;
-    let byline = fields::copied_text(alloc, object, "byline", 500, LineProperty::Byline)?;
-    let language = fields::copied_text(alloc, object, "language", 35, LineProperty::Language)?;
-    let category = fields::copied_text(alloc, object, "category", 3, LineProperty::Category)?;
-    let body = fields::copied_text(alloc, object, "body", 262144, LineProperty::Body)?;
-    let html = fields::flag_or(object, "html", false, LineProperty::Html)?;
-    Ok(Story {
-        kind,
-        urgency: urgency as u8,
-        slugline,
-        headline,
-        byline,
-        language,
-        category,
-        body,
-        html,
-    })
-}
-
+#[tactic(auto, unfolding(crate::specs::Lines::question))]
 fn question(object: &Value) -> Result<Asked, LineProperty>
-    ensures { result ≡ said.question (view object.now) }
+    ensures value { result ≡ said.question (view object.now) }
+    ensures fits { IfOk result FitsAsked }
 {
-    let word = fields::word(object, "ask", LineProperty::Ask)?;
-    match word {
-        "feed" => feed(object),
+    match needs_any_text(object, LineProperty::Ask)? {
+        "feed" => Ok(Asked::Query(Query::Feed {
+            subscriber: needs_name(object, LineProperty::Subscriber)?,
+            after: needs_whole(object, LineProperty::After, 4294967295)? as u32,
+        })),
+        "item" => Ok(Asked::Query(Query::Item {
+            item: item(object)?,
+        })),
+        "queue" => Ok(Asked::Query(Query::Queue)),
         "check" => Ok(Asked::Query(Query::Check)),
         _ => Err(LineProperty::Ask),
     }
 }
 
-fn feed(object: &Value) -> Result<Asked, LineProperty>
-    ensures { result ≡ said.feed (view object.now) }
+#[tactic(auto, unfolding(crate::specs::Lines::receipt))]
+fn receipt(object: &Value) -> Result<Asked, LineProperty>
+    ensures value { result ≡ said.receipt (view object.now) }
+    ensures fits { IfOk result FitsAsked }
 {
-    let subscriber = fields::name(object, "subscriber", LineProperty::Subscriber)?;
-    let after = fields::whole(object, "after", 1 << 32, LineProperty::After)?;
-    Ok(Asked::Query(Query::Feed {
-        subscriber,
-        after: after as u32,
-    }))
+    match given(object, LineProperty::Receipt) {
+        None => Err(LineProperty::Receipt),
+        Some(value) => {
+            if value.is_object() {
+                let subscriber = needs_name(value, LineProperty::Subscriber)?;
+                receipt_of(subscriber, value)
+            } else {
+                Err(LineProperty::Receipt)
+            }
+        }
+    }
+}
+
+/// A receipt of this subscriber.
+#[tactic(auto, unfolding(crate::specs::Lines::receipt_of))]
+fn receipt_of(subscriber: Name, object: &Value) -> Result<Asked, LineProperty>
+    ensures value { result ≡ said.receipt_of subscriber (view object.now) }
+    ensures fits { IfOk result FitsAsked }
+{
+    let n = needs_whole(object, LineProperty::N, 4294967295)? as u32;
+    Ok(Asked::Receipt { subscriber, n })
 }

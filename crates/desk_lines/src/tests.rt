@@ -1,249 +1,125 @@
-use crate::{LineFault, LineProperty, answer_text, bad_text, denial_text, read_line, reply_text};
-use news_types::{Answer, Bytes, Denial, FeedRow, FeedRows, Kind, Memory, Name, Reply, Thing};
+//! Each call once. The table of lines stands in `lines_table`, as the input of a program.
+use crate::{
+    Asked, LineFault, read_line, read_receipt_body, read_request_body, read_story, word_of_property,
+};
+use news_types::{Command, Name, Story};
 use std::alloc::Global;
 use std::test::Fail;
 
-const SUBSCRIBER: &str =
-    r#"{"by":"admin","number":1,"do":"add_subscriber","subscriber":"alpha","format":"ninjs","products":["all"]}"#;
-
-const FLASH: &str =
-    r#"{"by":"admin","number":2,"do":"flash","story":{"headline":"Fire","slugline":"fire","language":"en","urgency":3,"body":"Smoke."}}"#;
-
-const FEED: &str = r#"{"ask":"feed","subscriber":"alpha","after":0}"#;
-
-// Lines, and the first bad property of each as it is written.
-const BAD: [(&str, &str); 29] = [
-    ("[]", "line"),
-    ("", "line"),
-    (r#"{"by":"admin"}"#, "line"),
-    (r#"{"a":1e999,"ask":"check"}"#, "line"),
-    (r#"{"receipt":[]}"#, "line"),
-    (r#"{"do":"nope"}"#, "by"),
-    (r#"{"by":"Admin","number":1,"do":"flash"}"#, "by"),
-    (r#"{"by":"a","do":"nope"}"#, "number"),
-    (r#"{"by":"a","number":-0,"do":"stop"}"#, "number"),
-    (r#"{"by":"a","number":1.0,"do":"flash"}"#, "number"),
-    (r#"{"do":null,"by":"admin","number":1,"ask":"check"}"#, "do"),
-    (r#"{"by":"admin","number":1,"do":"stop"}"#, "do"),
-    (
-        r#"{"by":"a","number":1,"do":"add_subscriber"}"#,
-        "subscriber",
-    ),
-    (
-        r#"{"by":"a","number":1,"do":"add_subscriber","subscriber":"b","format":"NINJS"}"#,
-        "format",
-    ),
-    (
-        r#"{"by":"a","number":1,"do":"add_subscriber","subscriber":"b","format":"7901"}"#,
-        "products",
-    ),
-    (
-        r#"{"by":"a","number":1,"do":"add_subscriber","subscriber":"b","format":"7901","products":["all","all"]}"#,
-        "products",
-    ),
-    (r#"{"by":"a","number":1,"do":"flash"}"#, "story"),
-    (
-        r#"{"by":"a","number":1,"do":"flash","story":{"kind":"Text"}}"#,
-        "kind",
-    ),
-    (
-        r#"{"by":"a","number":1,"do":"flash","story":{"urgency":12}}"#,
-        "urgency",
-    ),
-    (
-        r#"{"by":"a","number":1,"do":"flash","story":{"category":"four"}}"#,
-        "category",
-    ),
-    (
-        r#"{"by":"a","number":1,"do":"flash","story":{"html":null}}"#,
-        "html",
-    ),
-    (
-        r#"{"by":"a","number":1,"do":"flash","story":{"html":1,"body":7}}"#,
-        "body",
-    ),
-    (
-        r#"{"by":"a","number":1,"do":"flash","story":{},"targets":null}"#,
-        "targets",
-    ),
-    (
-        r#"{"by":"a","number":1,"do":"flash","story":{},"targets":["b"]}"#,
-        "targets",
-    ),
-    (r#"{"ask":7}"#, "ask"),
-    (r#"{"ask":"item","item":1}"#, "ask"),
-    (r#"{"ask":"feed","after":0}"#, "subscriber"),
-    (r#"{"ask":"feed","subscriber":"b"}"#, "after"),
-    (
-        r#"{"ask":"feed","subscriber":"b","after":4294967296}"#,
-        "after",
-    ),
-];
-
-fn is_read(alloc: Global, line: &str) -> bool {
-    read_line(alloc, line.as_bytes()).is_ok()
+// Whether the line adds this subscriber, by the first request of `admin`.
+fn adds(alloc: Global, line: &[u8], name: &str) -> bool {
+    match read_line(alloc, line) {
+        Ok(asked) => is_asked(&asked, name),
+        Err(_) => false,
+    }
 }
 
-// The answer to a bad line, or nothing where it is read or memory is wanting.
-fn bad_answer(alloc: Global, line: &str) -> Option<Bytes> {
-    match read_line(alloc, line.as_bytes()) {
-        Err(LineFault::Bad(property)) => bad_text(alloc, property).ok(),
-        _ => None,
+fn is_asked(asked: &Asked, name: &str) -> bool {
+    match asked {
+        Asked::Request {
+            caller,
+            number,
+            command,
+        } => is_request(caller, *number, command, name),
+        _ => false,
+    }
+}
+
+fn is_request(caller: &Name, number: u64, command: &Command, name: &str) -> bool {
+    number == 1 && caller.as_str() == "admin" && is_adding(command, name)
+}
+
+fn is_adding(command: &Command, name: &str) -> bool {
+    match command {
+        Command::AddSubscriber { subscriber, .. } => subscriber.as_str() == name,
+        _ => false,
     }
 }
 
 #[test]
-fn good_lines(rt: HostRuntime) -> Result<(), Fail> {
-    let alloc = rt.alloc();
-    assert!(rt; is_read(alloc, SUBSCRIBER));
-    assert!(rt; is_read(alloc, FLASH));
-    assert!(rt; is_read(alloc, FEED));
-    assert!(rt;
-        is_read(
-            alloc,
-            r#"{"number":1,"do":"flash","story":{},"targets":[],"by":"a","more":[{}]}"#
-        )
-    );
+fn a_line(rt: HostRuntime) -> Result<(), Fail> {
+    let line =
+        br#"{"by":"admin","number":1,"do":"add_subscriber","subscriber":"alpha","format":"ninjs","products":["all"]}"#;
+    let added = adds(rt.alloc(), line, "alpha");
+    assert!(rt; added);
     Ok(())
 }
 
-#[test]
-fn bad_lines(rt: HostRuntime) -> Result<(), Fail> {
-    let alloc = rt.alloc();
-    for (line, property) in BAD {
-        let expected = format!(in alloc; "{{\"answer\":\"bad\",\"property\":\"{}\"}}", property)?;
-        let told = bad_answer(alloc, line);
-        assert!(rt; is_told(told, expected.as_bytes()), "{line}");
+// The first bad property as it is written, nothing where the line is read or memory is wanting.
+fn bad_property(alloc: Global, line: &[u8]) -> &'static str {
+    match read_line(alloc, line) {
+        Err(LineFault::Bad { property }) => word_of_property(property),
+        _ => "",
     }
+}
+
+#[test]
+fn a_bad_line(rt: HostRuntime) -> Result<(), Fail> {
+    let property = bad_property(rt.alloc(), br#"{"do":"nope","number":-1}"#);
+    assert_eq!(rt; property, "by");
     Ok(())
 }
 
-fn is_told(told: Option<Bytes>, expected: &[u8]) -> bool {
-    match told {
-        Some(bytes) => bytes.as_slice() == expected,
-        None => false,
-    }
-}
-
-fn is_text(told: Result<Bytes, Memory>, expected: &str) -> bool {
-    is_told(told.ok(), expected.as_bytes())
-}
-
-fn reply(entry: u64, item: u32, publication: u32, release: u64) -> Reply {
-    Reply {
-        entry,
-        item,
-        publication,
-        release,
+// Whether the body is the first request of `admin`, and adds this subscriber.
+fn adds_in_body(alloc: Global, caller: Name, body: &[u8], name: &str) -> bool {
+    match read_request_body(alloc, caller, body) {
+        Ok(asked) => is_asked(&asked, name),
+        Err(_) => false,
     }
 }
 
 #[test]
-fn replies(rt: HostRuntime) -> Result<(), Fail> {
-    let alloc = rt.alloc();
-    assert!(rt;
-        is_text(
-            reply_text(alloc, &reply(1, 0, 0, 0), false),
-            r#"{"answer":"done","entry":1}"#
-        )
-    );
-    assert!(rt;
-        is_text(
-            reply_text(alloc, &reply(2, 1, 1, 1000), false),
-            r#"{"answer":"done","entry":2,"item":1,"publication":1,"release":1000}"#
-        )
-    );
-    assert!(rt;
-        is_text(
-            reply_text(alloc, &reply(2, 1, 0, 7), true),
-            r#"{"answer":"repeat","entry":2,"item":1}"#
-        )
-    );
+fn a_request_body(rt: HostRuntime) -> Result<(), Fail> {
+    let admin = Name::read("admin").ok_or("a name")?;
+    let body =
+        br#"{"by":7,"number":1,"do":"add_subscriber","subscriber":"alpha","format":"7901","lag":600}"#;
+    let added = adds_in_body(rt.alloc(), admin, body, "alpha");
+    assert!(rt; added);
     Ok(())
 }
 
-#[test]
-fn denials(rt: HostRuntime) -> Result<(), Fail> {
-    let alloc = rt.alloc();
-    assert!(rt;
-        is_text(
-            denial_text(alloc, &Denial::OutOfTurn { expected: 2 }),
-            r#"{"answer":"denied","denial":"OutOfTurn","expected":2,"number":1}"#
-        )
-    );
-    assert!(rt;
-        is_text(
-            denial_text(
-                alloc,
-                &Denial::Limit {
-                    which: Thing::Stage,
-                    number: 64
-                }
-            ),
-            r#"{"answer":"denied","denial":"Limit","limit":64,"number":19,"which":"stage"}"#
-        )
-    );
-    assert!(rt;
-        is_text(
-            denial_text(alloc, &Denial::FilterOrder),
-            r#"{"answer":"denied","denial":"FilterOrder","number":17}"#
-        )
-    );
-    assert!(rt;
-        is_text(
-            answer_text(
-                alloc,
-                &Answer::Unknown {
-                    thing: Thing::Subscriber
-                }
-            ),
-            r#"{"answer":"denied","denial":"UnknownThing","number":5,"thing":"subscriber"}"#
-        )
-    );
-    Ok(())
+// The count that a receipt's body tells, 0 where it is none.
+fn count_told(alloc: Global, subscriber: Name, body: &[u8]) -> u32 {
+    match read_receipt_body(alloc, subscriber, body) {
+        Ok(asked) => count_of(&asked),
+        Err(_) => 0,
+    }
+}
+
+fn count_of(asked: &Asked) -> u32 {
+    match asked {
+        Asked::Receipt { n, .. } => *n,
+        _ => 0,
+    }
 }
 
 #[test]
-fn a_feed(rt: HostRuntime) -> Result<(), Fail> {
-    let alloc = rt.alloc();
-    let mut rows = Vec::new(alloc);
-    rows.push(FeedRow {
-        k: 1,
-        item: 1,
-        publication: 1,
-        kind: Kind::First,
-        version: 1,
-        release: 1000,
-    })?;
-    let Some(subscriber) = Name::read("alpha") else {
-        return Ok(());
-    };
-    let answer = Answer::Feed {
-        subscriber,
-        length: 1,
-        entries: FeedRows::of(rows),
-    };
-    assert!(rt;
-        is_text(
-            answer_text(alloc, &answer),
-            r#"{"answer":"feed","entries":[{"item":1,"k":1,"kind":"first","publication":1,"release":1000,"version":1}],"length":1,"subscriber":"alpha"}"#
-        )
-    );
+fn a_receipt_body(rt: HostRuntime) -> Result<(), Fail> {
+    let alpha = Name::read("alpha").ok_or("a name")?;
+    let count = count_told(rt.alloc(), alpha, br#"{"n":2}"#);
+    assert_eq!(rt; count, 2);
     Ok(())
 }
 
+// Whether it is a story with this headline.
+fn has_headline(alloc: Global, object: &[u8], headline: &str) -> bool {
+    match read_story(alloc, object) {
+        Ok(story) => is_headed(&story, headline),
+        Err(_) => false,
+    }
+}
+
+fn is_headed(story: &Story, headline: &str) -> bool {
+    story.headline.as_str() == headline
+}
+
 #[test]
-fn a_line_of_too_deep_lists_is_bad(rt: HostRuntime) -> Result<(), Fail> {
-    let alloc = rt.alloc();
-    let mut line = Vec::new(alloc);
-    line.extend_from_slice(b"{\"ask\":")?;
-    for _ in 0..127 {
-        line.push(b'[')?;
-    }
-    for _ in 0..127 {
-        line.push(b']')?;
-    }
-    line.push(b'}')?;
-    assert!(rt; read_line(alloc, &line).err() == Some(LineFault::Bad(LineProperty::Line)));
+fn a_story(rt: HostRuntime) -> Result<(), Fail> {
+    let read = has_headline(
+        rt.alloc(),
+        br#"{"headline":"Pack","kind":"video","members":[]}"#,
+        "Pack",
+    );
+    assert!(rt; read);
     Ok(())
 }

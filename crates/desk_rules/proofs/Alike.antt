@@ -11,8 +11,9 @@ use Rattle.news_types.specs.declared.story.Incoming.{Incoming}
 use Rattle.news_types.specs.Names.{Bytes, same}
 use Rattle.news_types.specs.History.{History}
 use Rattle.news_types.specs.Desks.{incoming, working}
-use Rattle.news_types.specs.Publications.{standing_first}
-use Rattle.news_types.specs.Items.{Item, Effect, New, NewAt, Replaces, Cancels, Settled, made, changed_by, settled, named_item, effect, placed}
+use Rattle.news_types.specs.Due.{standing_first}
+use Rattle.news_types.specs.Items.{Item, Effect, New, NewAt, Replaces, Cancels, Settled, changed_by, at_moment, named_item, placed}
+use Rattle.news_types.specs.Publications.{made, effect}
 use Rattle.news_types.specs.Items as items
 use Rattle.news_types.proofs.Changes.{requested, IsOwn, IsNoRequest}
 use Rattle.desk_rules.specs.declared.table.Desks.{Desks}
@@ -111,23 +112,23 @@ module _ (h : History) (m number : ℕ) (caller : Bytes) where
   }
 
   -- the named item is changed
-  changing : (command : Command) (g : Spot → Spot) → IsOfItems command → (made (after command)).items ≡ items.changed (named_item command) (λ it. changed_by caller command (settled m (standing_first (named_item command) ((made h).standing)) it)) ((made h).items)
+  changing : (command : Command) (g : Spot → Spot) → IsOfItems command → (made (after command)).items ≡ items.changed (named_item command) (λ it. changed_by caller command (at_moment m (standing_first (named_item command) ((made h).standing)) it)) ((made h).items)
       → ((it : Item) → spot_of (changed_by caller command it) ≡ g (spot_of it))
       → AreAlike (record (facts h) { spots = changed (named_item command) g (map spot_of ((made h).items)) }) (facts (after command))
   changing command g of is alike =
       let i : ℕ = named_item command in
-      let f : Item → Item = λ it. changed_by caller command (settled m (standing_first i ((made h).standing)) it) in
+      let f : Item → Item = λ it. changed_by caller command (at_moment m (standing_first i ((made h).standing)) it) in
       items_alone command (changed i g (map spot_of ((made h).items))) of
-      (sym (ap (map spot_of) is ∙ spots_changed i f g ((made h).items) (λ it. alike (settled m (standing_first i ((made h).standing)) it))))
+      (sym (ap (map spot_of) is ∙ spots_changed i f g ((made h).items) (λ it. alike (at_moment m (standing_first i ((made h).standing)) it))))
 
-  keeping : (command : Command) → IsOfItems command → (made (after command)).items ≡ items.changed (named_item command) (λ it. changed_by caller command (settled m (standing_first (named_item command) ((made h).standing)) it)) ((made h).items)
+  keeping : (command : Command) → IsOfItems command → (made (after command)).items ≡ items.changed (named_item command) (λ it. changed_by caller command (at_moment m (standing_first (named_item command) ((made h).standing)) it)) ((made h).items)
       → ((it : Item) → spot_of (changed_by caller command it) ≡ spot_of it)
       → AreAlike (facts h) (facts (after command))
   keeping command of is alike =
       let i : ℕ = named_item command in
-      let f : Item → Item = λ it. changed_by caller command (settled m (standing_first i ((made h).standing)) it) in
+      let f : Item → Item = λ it. changed_by caller command (at_moment m (standing_first i ((made h).standing)) it) in
       items_alone command (map spot_of ((made h).items)) of
-      (sym (ap (map spot_of) is ∙ spots_kept i f ((made h).items) (λ it. alike (settled m (standing_first i ((made h).standing)) it))))
+      (sym (ap (map spot_of) is ∙ spots_kept i f ((made h).items) (λ it. alike (at_moment m (standing_first i ((made h).standing)) it))))
 
   making : (command : Command) (it : Item) → IsOfItems command → (made (after command)).items ≡ (made h).items ++ it ∷ []
       → AreAlike (record (facts h) { spots = map spot_of ((made h).items) ++ spot_of it ∷ [] }) (facts (after command))

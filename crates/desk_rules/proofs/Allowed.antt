@@ -11,7 +11,7 @@ use Rattle.news_types.specs.Names.{Bytes}
 use Rattle.news_types.specs.History.{History}
 use Rattle.news_types.specs.Users.{privileges, is_user}
 use Rattle.news_types.specs.Desks.{is_desk, is_stage}
-use Rattle.news_types.specs.Items.{item}
+use Rattle.news_types.specs.Publications.{item}
 use Rattle.news_types.specs.Denial.{or_else, unless, absent, first_missing}
 use Rattle.desk_rules.specs.Facts.{Facts, facts}
 use Rattle.desk_rules.specs.Asked.{is_of_desks, knows_denial}

@@ -5,7 +5,8 @@ use Rattle.std.specs.List.{slice_get}
 use Rattle.std.specs.Option.{option_map, option_and_then}
 use Rattle.news_types.specs.declared.rules.Place.{Place}
 use Rattle.news_types.specs.History.{History}
-use Rattle.news_types.specs.Items.{Item, made, item}
+use Rattle.news_types.specs.Items.{Item}
+use Rattle.news_types.specs.Publications.{made, item}
 use Rattle.news_types.specs.Items as items
 use Rattle.desk_rules.specs.declared.seats.Seat.{Seat}
 use Rattle.desk_rules.specs.declared.table.Desks.{Desks}
@@ -15,7 +16,7 @@ use Rattle.desk_rules.specs.Keeps.{KeepsFacts}
 use Rattle.desk_rules.specs.Asked.{place_in, holder_in, IsHeldAs}
 use Rattle.desk_rules.proofs.Spots.{AreFound, found}
 
-spot_numbered : (xs : List Item) (i : ℕ) → numbered (map spot_of xs) i ≡ option_map spot_of (items.numbered xs i)
+spot_numbered : (xs : List Item) (i : ℕ) → numbered (map spot_of xs) i ≡ option_map spot_of (items.item_numbered xs i)
 spot_numbered xs i =
     elim (i == 0) as (λ b. cond b None (slice_get (map spot_of xs) (i - 1)) ≡ option_map spot_of (cond b None (slice_get xs (i - 1)))) [
       | true ↦ refl

@@ -17,7 +17,7 @@ use Rattle.news_types.specs.Desks.{is_desk, is_stage}
 use Rattle.news_types.specs.Filters.{is_filter}
 use Rattle.news_types.specs.Products.{is_subscriber}
 use Rattle.news_types.specs.Routing.{scheme}
-use Rattle.news_types.specs.Items.{item}
+use Rattle.news_types.specs.Publications.{item}
 use Rattle.news_types.specs.Denial.{or_else, absent, absent_of, absent_if_given, absent_item, absent_in_place, absent_in_fetch, absent_in_rule, absent_in_statement, first_missing, is_condition_there, is_filter_or, is_product}
 use Rattle.desk_rules.specs.Asked.{is_of_desks, knows_denial}
 
@@ -149,8 +149,8 @@ none_named h (SetBlock name on) is = said _ (filter_other h name)
 none_named h (AddProduct name how given) is = said _ (given_other thing.Filter refl (is_filter h) given)
 none_named h (SetProduct name how given) is =
     said _ (none_both (absent (is_product h name) thing.Product) (absent_if_given (is_filter h) thing.Filter given) (absent_other thing.Product refl (is_product h name)) (given_other thing.Filter refl (is_filter h) given))
-none_named h (AddSubscriber name format products) is = said _ (all_other thing.Product refl (is_product h) products)
-none_named h (SetSubscriber name active products off) is =
+none_named h (AddSubscriber name format products lag) is = said _ (all_other thing.Product refl (is_product h) products)
+none_named h (SetSubscriber name active products off lag) is =
     let first : filter is_of_desks (absent (is_subscriber h name) thing.Subscriber ++ absent_of (is_product h) thing.Product products) ≡ [] =
     none_both (absent (is_subscriber h name) thing.Subscriber) (absent_of (is_product h) thing.Product products) (absent_other thing.Subscriber refl (is_subscriber h name)) (all_other thing.Product refl (is_product h) products) in
     said _ (none_both (absent (is_subscriber h name) thing.Subscriber ++ absent_of (is_product h) thing.Product products) (absent_of (is_filter h) thing.Filter off) first (all_other thing.Filter refl (is_filter h) off))

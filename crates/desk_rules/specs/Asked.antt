@@ -12,7 +12,8 @@ use Rattle.news_types.specs.declared.denial.Denial.TheVariants.{UnknownUser, NoP
 use Rattle.news_types.specs.Names.{Bytes}
 use Rattle.news_types.specs.History.{History}
 use Rattle.news_types.specs.Users.{is_user, may}
-use Rattle.news_types.specs.Items.{Item, named_item, item}
+use Rattle.news_types.specs.Items.{Item, named_item}
+use Rattle.news_types.specs.Publications.{item}
 use Rattle.news_types.specs.Denial.{unless, or_else, privilege_of, missing, first_missing, is_taken, asked_desk, member_denial, state_denial, lock_rule, lock_denial, limit_denial}
 use Rattle.desk_rules.specs.declared.seats.Seat.{Seat}
 

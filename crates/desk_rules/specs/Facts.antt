@@ -5,7 +5,8 @@ use Rattle.news_types.specs.Names.{Bytes, same}
 use Rattle.news_types.specs.History.{History, fact_of}
 use Rattle.news_types.specs.Users.{privileges, user_count}
 use Rattle.news_types.specs.Desks.{is_desk, desk_count, incoming, working, stage_after, stage_count, is_member}
-use Rattle.news_types.specs.Items.{Item, made}
+use Rattle.news_types.specs.Items.{Item}
+use Rattle.news_types.specs.Publications.{made}
 use Rattle.desk_rules.specs.Spots.{Spot}
 
 pub record Facts : Type 0 where

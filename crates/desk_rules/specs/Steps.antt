@@ -5,6 +5,7 @@ use Rattle.news_types.specs.declared.command.Command.{Command}
 use Rattle.news_types.specs.declared.command.Command.TheVariants as command
 use Rattle.news_types.specs.declared.rules.Place.{Place}
 use Rattle.news_types.specs.Names.{Bytes, same}
+use Rattle.news_types.specs.History.{History}
 use Rattle.news_types.specs.Users.{privileges_after}
 use Rattle.news_types.specs.Desks.{incoming, working, desk_after, stage_after, stages_added, member_after}
 use Rattle.desk_rules.specs.declared.on_desk.OnDesk.{OnDesk}
@@ -15,7 +16,7 @@ use Rattle.desk_rules.specs.declared.table.Desks.{Desks}
 use Rattle.desk_rules.specs.Keys.{same_on}
 use Rattle.desk_rules.specs.Spots.{Spot, changed}
 use Rattle.desk_rules.specs.Places.{HasRoomFor as HasPlacesFor}
-use Rattle.desk_rules.specs.Facts.{Facts, has_stage}
+use Rattle.desk_rules.specs.Facts.{Facts, has_stage, facts}
 
 abbrev pub at : Bytes → Bytes → Place
 at desk stage = record { desk = desk; stage = stage }
@@ -85,15 +86,15 @@ Fits (Make place) f = IsThere f place
 Fits (Put i place) f = IsThere f place
 Fits _ f = Unit {0}
 
--- the change is that of the caller's command, which these facts allow
-pub record IsFor (change : DeskChange) (caller : Bytes) (given : Command) (f : Facts) : Type 0 where
+-- the change is that of the caller's command, which the list allows
+pub record IsFor (change : DeskChange) (caller : Bytes) (given : Command) (h : History) : Type 0 where
   pub step : change.step ≡ step_of caller given
-  pub fits : Fits change.step f
+  pub fits : Fits change.step (facts h)
 
 -- the change makes an item at the place, which is there
-pub record IsMaking (change : DeskChange) (place : Option Place) (f : Facts) : Type 0 where
+pub record IsMaking (change : DeskChange) (place : Option Place) (h : History) : Type 0 where
   pub step : change.step ≡ make_at place
-  pub fits : Fits change.step f
+  pub fits : Fits change.step (facts h)
 
 -- the tables keep the same
 pub record IsAlike (t r : Desks) : Type 0 where

@@ -3,7 +3,8 @@ ghost use Rattle.std.specs.Prelude.{◌≡◌, ◌+◌, ◌<◌, ℕ, Bool, ◌�
 ghost use Rattle.std.specs.HashMap.{get, hash_map_len, spare};
 ghost use Rattle.news_types.specs.Names.{Bytes, same};
 ghost use Rattle.news_types.specs.History.{History};
-ghost use Rattle.news_types.specs.Items.{effect, placed};
+ghost use Rattle.news_types.specs.Items.{placed};
+ghost use Rattle.news_types.specs.Publications.{effect};
 ghost use Rattle.news_types.specs.declared.entry.Entry.{Entry};
 ghost use Rattle.news_types.specs.declared.entry.Act.TheVariants.{Request, Ingest};
 ghost use Rattle.news_types.specs.declared.command.Command.{Command};
@@ -38,9 +39,9 @@ impl Desks {
     /// Takes the memory for a command of the caller that `knows` allows. Users, desks and items stay as they are,
     /// also where memory is wanting. A command on other things makes a change that does nothing.
     pub fn prepare(&mut self, caller: &Name, command: &Command) -> Result<DeskChange, Memory>
-        ensures stays { (f : Facts) → Keeps self.old f → Keeps self.new f }
+        ensures stays { (h : History) → KeepsFacts self.old h → KeepsFacts self.new h }
         ensures room { IfOk result (λ change. HasRoom self.new change) }
-        ensures change { (h : History) → knows_denial h command.now ≡ None → IfOk result (λ change. IsFor change caller.now command.now (facts h)) }
+        ensures change { (h : History) → knows_denial h command.now ≡ None → IfOk result (λ change. IsFor change caller.now command.now h) }
     {
         let step = step_of(caller, command);
         self.reserve(&step)?;
@@ -50,9 +51,9 @@ impl Desks {
     /// Takes the memory for an item that comes in, at a place that is there or at none. Users, desks and items stay
     /// as they are, also where memory is wanting.
     pub fn prepare_item(&mut self, place: Option<Place>) -> Result<DeskChange, Memory>
-        ensures stays { (f : Facts) → Keeps self.old f → Keeps self.new f }
+        ensures stays { (h : History) → KeepsFacts self.old h → KeepsFacts self.new h }
         ensures room { IfOk result (λ change. HasRoom self.new change) }
-        ensures change { (h : History) → IsThereIfGiven (facts h) place → IfOk result (λ change. IsMaking change place (facts h)) }
+        ensures change { (h : History) → IsThereIfGiven (facts h) place → IfOk result (λ change. IsMaking change place h) }
     {
         let step = make(place);
         self.reserve(&step)?;
@@ -62,10 +63,9 @@ impl Desks {
     /// Makes a change. It takes no memory. Nothing may have been committed since the change was prepared.
     pub fn commit(&mut self, change: DeskChange)
         requires { HasRoom self.old change }
-        ensures facts { (f : Facts) → Keeps self.old f → Fits change.step f → Keeps self.new (leads change.step f) }
-        ensures request { (h : History) (e : Entry) (caller : Bytes) (number : ℕ) (command : Command) → KeepsFacts self.old h → IsFor change caller command (facts h)
+        ensures request { (h : History) (e : Entry) (caller : Bytes) (number : ℕ) (command : Command) → KeepsFacts self.old h → IsFor change caller command h
             → e.act ≡ Request caller number command → KeepsFacts self.new (e ∷ h) }
-        ensures ingest { (h : History) (e : Entry) (name : Bytes) (come : Incoming) (place : Option Place) (published : Bool) → KeepsFacts self.old h → IsMaking change place (facts h)
+        ensures ingest { (h : History) (e : Entry) (name : Bytes) (come : Incoming) (place : Option Place) (published : Bool) → KeepsFacts self.old h → IsMaking change place h
             → e.act ≡ Ingest name come → effect h name come e.moment ≡ placed place published → KeepsFacts self.new (e ∷ h) }
     {
         let DeskChange { step } = change;

@@ -50,7 +50,7 @@ pub(crate) fn work_denial(
 fn state_denial(command: &Command, state: State) -> Option<Denial>
     ensures { result ≡ denial.state_denial command.now state }
 {
-    if has_row(state, action_of(command)) || asks_release(command, state) {
+    if has_row(state, action_of(command)) || is_about_release(command, state) {
         return None;
     }
     Some(Denial::WrongState { state })
@@ -67,8 +67,8 @@ fn has_row(state: State, action: Option<Action>) -> bool
 }
 
 /// Whether the command is denied in this state for the item's release.
-fn asks_release(command: &Command, state: State) -> bool
-    ensures { result ≡ is_some (denial.release_denial command.now state 0) }
+fn is_about_release(command: &Command, state: State) -> bool
+    ensures { result ≡ denial.is_about_release command.now state }
 {
     match command {
         Command::Correct { .. } | Command::Kill { .. } | Command::Recall { .. } => {

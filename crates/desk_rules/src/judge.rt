@@ -1,10 +1,11 @@
 //! Whether a command is allowed.
-ghost use Rattle.std.specs.Prelude.{◌≡◌, Bool, not, nat_lt, flat_map, filter};
+ghost use Rattle.std.specs.Prelude.{◌≡◌, Bool, not, flat_map, filter};
 ghost use Rattle.news_types.specs.History.{History};
 ghost use Rattle.news_types.specs.Denial as denial;
 ghost use Rattle.news_types.specs.Items as items;
+ghost use Rattle.news_types.specs.Publications as published;
 ghost use Rattle.news_types.specs.declared.command.Command.TheVariants as command;
-ghost use Rattle.news_types.specs.declared.denial.Denial.TheVariants.{Limit, NameTaken};
+ghost use Rattle.news_types.specs.declared.denial.Denial.TheVariants.{NameTaken};
 ghost use Rattle.desk_rules.specs.Keeps.{KeepsFacts};
 ghost use Rattle.desk_rules.specs.Asked.{caller_denial, may_denial, knows_denial, full_denial, is_of_desks};
 
@@ -41,8 +42,8 @@ impl Desks {
         work_denial(caller, command, seat, state)
     }
 
-    /// That the caller is no user, or lacks the privilege.
-    fn caller_denial(&self, caller: &Name, command: &Command) -> Option<Denial>
+    /// That the caller is no user, or lacks the privilege. It takes no memory.
+    pub fn caller_denial(&self, caller: &Name, command: &Command) -> Option<Denial>
         ensures { (h : History) → KeepsFacts self.now h → result ≡ caller_denial h caller.now command.now }
     {
         let Some(privileges) = self.users.get(caller).copied() else {
@@ -57,7 +58,7 @@ impl Desks {
 
     /// That the caller is no member of the desk that is asked for.
     fn member_denial(&self, caller: &Name, command: &Command) -> Option<Denial>
-        ensures { (h : History) → KeepsFacts self.now h → result ≡ denial.member_denial h caller.now (denial.asked_desk command.now (items.item h (items.named_item command.now))) }
+        ensures { (h : History) → KeepsFacts self.now h → result ≡ denial.member_denial h caller.now (denial.asked_desk command.now (published.item h (items.named_item command.now))) }
     {
         let desk = asked_desk(command, self.place(named_item(command)))?;
         if self.is_member(&desk, caller) {
@@ -73,15 +74,15 @@ impl Desks {
     {
         match command {
             Command::AddUser { user, .. } => taken(self.has_user(user)),
-            Command::SetUser { user, .. } => unknown(Thing::User, self.has_user(user)),
+            Command::SetUser { user, .. } => Denial::unless_there(Thing::User, self.has_user(user)),
             Command::AddDesk { desk } => taken(self.has_desk(desk)),
             Command::AddStage { desk, stage } => self.stage_denial(desk, stage),
             Command::SetMember { desk, user, .. } => self.user_denial(desk, user),
             Command::AddScheme { rules, .. } => self.rules_denial(rules.as_slice()),
-            Command::Create { desk, .. } => unknown(Thing::Desk, self.has_desk(desk)),
+            Command::Create { desk, .. } => Denial::unless_there(Thing::Desk, self.has_desk(desk)),
             Command::MoveTo { desk, stage, .. } => self.place_denial(desk, stage),
-            Command::Unspike { desk, .. } => unknown(Thing::Desk, self.has_desk(desk)),
-            Command::Fetch { desk, .. } => unknown(Thing::Desk, self.has_desk(desk)),
+            Command::Unspike { desk, .. } => Denial::unless_there(Thing::Desk, self.has_desk(desk)),
+            Command::Fetch { desk, .. } => Denial::unless_there(Thing::Desk, self.has_desk(desk)),
             _ => None,
         }
     }
@@ -91,7 +92,7 @@ impl Desks {
         ensures { (h : History) → KeepsFacts self.now h → result ≡ knows_denial h (command.AddStage desk.now stage.now) }
     {
         if !self.has_desk(desk) {
-            return unknown(Thing::Desk, false);
+            return Denial::unless_there(Thing::Desk, false);
         }
         taken(self.has_stage(desk, stage))
     }
@@ -101,9 +102,9 @@ impl Desks {
         ensures { (h : History) → KeepsFacts self.now h → (member : Bool) → result ≡ knows_denial h (command.SetMember desk.now user.now member) }
     {
         if !self.has_desk(desk) {
-            return unknown(Thing::Desk, false);
+            return Denial::unless_there(Thing::Desk, false);
         }
-        unknown(Thing::User, self.has_user(user))
+        Denial::unless_there(Thing::User, self.has_user(user))
     }
 
     /// That the desk is not there, or has no such stage.
@@ -142,24 +143,22 @@ impl Desks {
         ensures { (h : History) → KeepsFacts self.now h → result ≡ full_denial h command.now }
     {
         match command {
-            Command::AddUser { .. } => full(Thing::User, self.users.len(), MOST_USERS),
-            Command::AddDesk { .. } => full(Thing::Desk, self.desks.len(), MOST_DESKS),
+            Command::AddUser { .. } => Denial::unless_below(
+                Thing::User,
+                self.users.len(),
+                MOST_USERS,
+            ),
+            Command::AddDesk { .. } => Denial::unless_below(
+                Thing::Desk,
+                self.desks.len(),
+                MOST_DESKS,
+            ),
             Command::AddStage { desk, .. } => {
-                full(Thing::Stage, self.stage_count(desk) as usize, MOST_STAGES)
+                Denial::unless_below(Thing::Stage, self.stage_count(desk) as usize, MOST_STAGES)
             }
             _ => None,
         }
     }
-}
-
-/// That a thing of the kind is not there.
-fn unknown(thing: Thing, is_there: bool) -> Option<Denial>
-    ensures { result ≡ denial.first_missing (denial.absent is_there thing) }
-{
-    if is_there {
-        return None;
-    }
-    Some(Denial::UnknownThing { thing })
 }
 
 /// That a name that is added is there already.
@@ -170,17 +169,4 @@ fn taken(is_there: bool) -> Option<Denial>
         return Some(Denial::NameTaken);
     }
     None
-}
-
-/// That there are so many already.
-fn full(which: Thing, count: usize, limit: u32) -> Option<Denial>
-    ensures { result ≡ denial.unless (nat_lt count limit) (Limit which limit) }
-{
-    if count < limit as usize {
-        return None;
-    }
-    Some(Denial::Limit {
-        which,
-        number: limit,
-    })
 }

@@ -6,6 +6,7 @@ ghost use Rattle.news_types.specs.History.{History};
 ghost use Rattle.news_types.specs.Answers.{allowed};
 ghost use Rattle.news_types.specs.Denial.{absent_in_place};
 ghost use Rattle.news_types.specs.Items as items;
+ghost use Rattle.news_types.specs.Publications as published;
 ghost use Rattle.desk_rules.specs.Keys.{same_on, on_desk};
 ghost use Rattle.desk_rules.specs.Spots.{numbered, place_at};
 ghost use Rattle.desk_rules.specs.Keeps.{KeepsFacts};
@@ -75,14 +76,14 @@ impl Desks {
 
     /// Where the item stands, if it stands on a desk. It takes no memory.
     pub fn place(&self, item: u32) -> Option<Place>
-        ensures { (h : History) → KeepsFacts self.now h → result ≡ place_in (items.item h item) }
+        ensures { (h : History) → KeepsFacts self.now h → result ≡ place_in (published.item h item) }
     {
         self.place_of(self.seat(item))
     }
 
     /// Who holds the item, if somebody does. It takes no memory.
     pub fn holder(&self, item: u32) -> Option<Holder>
-        ensures { (h : History) → KeepsFacts self.now h → result ≡ holder_in (items.item h item) }
+        ensures { (h : History) → KeepsFacts self.now h → result ≡ holder_in (published.item h item) }
     {
         holder_of(self.seat(item))
     }
@@ -90,7 +91,7 @@ impl Desks {
     /// What is kept of the item.
     pub(crate) fn seat(&self, item: u32) -> Option<Seat>
         ensures value { result ≡ numbered self.now.seats.items item }
-        ensures held { (h : History) → KeepsFacts self.now h → IsHeldAs result (items.item h item) }
+        ensures held { (h : History) → KeepsFacts self.now h → IsHeldAs result (published.item h item) }
     {
         seat_of(&self.seats, item)
     }

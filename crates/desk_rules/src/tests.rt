@@ -11,19 +11,22 @@ use std::test::Fail;
 
 /// A command, with names as text.
 #[derive(Clone, Copy)]
-enum Row {
-    User(&'static str, u16),
-    Desk(&'static str),
-    Stage(&'static str, &'static str),
+enum Row<'a> {
+    User(&'a str, u16),
+    SetUser(&'static str, u16),
+    Desk(&'a str),
+    Stage(&'a str, &'a str),
     Member(&'static str, &'static str, bool),
     Create(&'static str),
     Flash,
     Lock(u32, &'static str),
     Unlock(u32, &'static str),
+    BreakLock(u32),
     Edit(u32, &'static str),
     Move(u32, &'static str, &'static str),
     Spike(u32),
     Unspike(u32, &'static str),
+    Fetch(u32, &'static str),
 }
 
 /// How a command is answered.
@@ -44,6 +47,13 @@ fn name(rt: &impl Abort, text: &str) -> Name {
     Name::read(text).expect(rt, "a name")
 }
 
+fn place(rt: &impl Abort, desk: &str, stage: &str) -> Place {
+    Place {
+        desk: name(rt, desk),
+        stage: name(rt, stage),
+    }
+}
+
 fn text(alloc: Global) -> Result<Text, Memory> {
     Text::copy_of(alloc, "x")
 }
@@ -55,6 +65,7 @@ fn story(alloc: Global) -> Result<Story, Memory> {
     let language = text(alloc)?;
     let category = text(alloc)?;
     let body = text(alloc)?;
+    let copyright = text(alloc)?;
     Ok(Story {
         kind: Media::Text,
         urgency: 3,
@@ -65,12 +76,17 @@ fn story(alloc: Global) -> Result<Story, Memory> {
         category,
         body,
         html: false,
+        copyright,
     })
 }
 
 fn command(rt: &impl Abort, alloc: Global, row: Row) -> Result<Command, Memory> {
     Ok(match row {
         Row::User(user, bits) => Command::AddUser {
+            user: name(rt, user),
+            privileges: Privileges { bits },
+        },
+        Row::SetUser(user, bits) => Command::SetUser {
             user: name(rt, user),
             privileges: Privileges { bits },
         },
@@ -100,6 +116,7 @@ fn item_command(rt: &impl Abort, alloc: Global, row: Row) -> Result<Command, Mem
             item,
             session: name(rt, session),
         },
+        Row::BreakLock(item) => Command::BreakLock { item },
         Row::Move(item, desk, stage) => Command::MoveTo {
             item,
             desk: name(rt, desk),
@@ -107,6 +124,10 @@ fn item_command(rt: &impl Abort, alloc: Global, row: Row) -> Result<Command, Mem
         },
         Row::Spike(item) => Command::Spike { item },
         Row::Unspike(item, desk) => Command::Unspike {
+            item,
+            desk: name(rt, desk),
+        },
+        Row::Fetch(item, desk) => Command::Fetch {
             item,
             desk: name(rt, desk),
         },
@@ -205,6 +226,12 @@ fn run(
 
 const WRITE: u16 = 32;
 
+const UNLOCK: u16 = 256;
+
+const DRAFT: Option<State> = Some(State::Draft);
+
+const INGESTED: Option<State> = Some(State::Ingested);
+
 const SPIKED: Option<State> = Some(State::Spiked);
 
 const SUBMITTED: Option<State> = Some(State::Submitted);
@@ -219,7 +246,7 @@ const LOCKS: [(&str, Row, Option<State>, Want); 12] = [
     ),
     ("admin", Row::User("ana", WRITE), None, Want::Done),
     ("admin", Row::Create("city"), None, Want::Done),
-    ("admin", Row::Spike(1), Some(State::Draft), Want::Done),
+    ("admin", Row::Spike(1), DRAFT, Want::Done),
     ("ana", Row::Edit(1, "two"), SPIKED, Want::NotMember("city")),
     ("admin", Row::Member("city", "ana", true), None, Want::Done),
     (
@@ -244,10 +271,7 @@ fn a_lock_is_of_a_user_and_a_session(rt: HostRuntime) -> Result<(), Fail> {
     let alloc = rt.alloc();
     let mut desks = Desks::new(alloc)?;
     run(&rt, alloc, &mut desks, &LOCKS)?;
-    let place = Place {
-        desk: name(&rt, "city"),
-        stage: name(&rt, "incoming"),
-    };
+    let place = place(&rt, "city", "incoming");
     let holder = Holder {
         user: name(&rt, "ana"),
         session: name(&rt, "one"),
@@ -257,9 +281,9 @@ fn a_lock_is_of_a_user_and_a_session(rt: HostRuntime) -> Result<(), Fail> {
     Ok(())
 }
 
-/// Makes an item that comes in and gets no place.
-fn make_item(desks: &mut Desks) -> Result<(), Memory> {
-    match desks.prepare_item(None) {
+/// Makes an item that comes in.
+fn make_item(desks: &mut Desks, place: Option<Place>) -> Result<(), Memory> {
+    match desks.prepare_item(place) {
         Ok(change) => {
             desks.commit(change);
             Ok(())
@@ -284,14 +308,9 @@ const SIX: [(&str, Row, Option<State>, Want); 14] = [
     ("admin", Row::Member("city", "ana", true), None, Want::Done),
     ("ana", Row::Create("city"), None, Want::Done),
     ("ana", Row::Create("city"), None, Want::Done),
-    ("ana", Row::Lock(2, "one"), Some(State::Draft), Want::Done),
-    ("ana", Row::Unlock(2, "one"), Some(State::Draft), Want::Done),
-    (
-        "ana",
-        Row::Move(2, "city", "incoming"),
-        Some(State::Draft),
-        Want::Done,
-    ),
+    ("ana", Row::Lock(2, "one"), DRAFT, Want::Done),
+    ("ana", Row::Unlock(2, "one"), DRAFT, Want::Done),
+    ("ana", Row::Move(2, "city", "incoming"), DRAFT, Want::Done),
     ("ana", Row::Lock(2, "one"), SUBMITTED, Want::Done),
 ];
 
@@ -300,7 +319,7 @@ fn six_requests_are_accepted(rt: HostRuntime) -> Result<(), Fail> {
     let alloc = rt.alloc();
     let mut desks = Desks::new(alloc)?;
     run(&rt, alloc, &mut desks, &SIX)?;
-    make_item(&mut desks)?;
+    make_item(&mut desks, None)?;
     let ana = name(&rt, "ana");
     assert!(rt; desks.holds(&ana, Some(Privilege::Write)));
     assert!(rt; !desks.holds(&ana, Some(Privilege::Kill)));
@@ -326,11 +345,167 @@ fn a_place_is_a_stage_of_a_desk(rt: HostRuntime) -> Result<(), Fail> {
         &[("admin", Row::Desk("city"), None, Want::Done)],
     )?;
     for (desk, stage, want) in NOT_THERE {
-        let place = Place {
-            desk: name(&rt, desk),
-            stage: name(&rt, stage),
-        };
+        let place = place(&rt, desk, stage);
         assert!(rt; desks.missing(&place) == want, "{desk} {stage}");
     }
+    Ok(())
+}
+
+// What a user had before is gone with other privileges.
+const BROKEN: [(&str, Row, Option<State>, Want); 15] = [
+    ("admin", Row::Desk("city"), None, Want::Done),
+    (
+        "admin",
+        Row::Member("city", "admin", true),
+        None,
+        Want::Done,
+    ),
+    ("admin", Row::User("ana", WRITE), None, Want::Done),
+    ("admin", Row::Member("city", "ana", true), None, Want::Done),
+    ("ana", Row::Create("city"), None, Want::Done),
+    ("ana", Row::Lock(1, "one"), DRAFT, Want::Done),
+    (
+        "ana",
+        Row::BreakLock(1),
+        DRAFT,
+        Want::NoPrivilege(Privilege::Unlock),
+    ),
+    ("admin", Row::BreakLock(1), DRAFT, Want::Done),
+    ("admin", Row::BreakLock(1), DRAFT, Want::NotLocked),
+    ("ana", Row::Edit(1, "one"), DRAFT, Want::NotLocked),
+    ("ana", Row::Lock(1, "two"), DRAFT, Want::Done),
+    (
+        "admin",
+        Row::SetUser("bob", UNLOCK),
+        None,
+        Want::Unknown(Thing::User),
+    ),
+    ("admin", Row::SetUser("ana", UNLOCK), None, Want::Done),
+    (
+        "ana",
+        Row::Edit(1, "two"),
+        DRAFT,
+        Want::NoPrivilege(Privilege::Write),
+    ),
+    ("ana", Row::BreakLock(1), DRAFT, Want::Done),
+];
+
+#[test]
+fn a_broken_lock_is_nobodys(rt: HostRuntime) -> Result<(), Fail> {
+    let alloc = rt.alloc();
+    let mut desks = Desks::new(alloc)?;
+    run(&rt, alloc, &mut desks, &BROKEN)?;
+    assert!(rt; desks.holder(1) == None);
+    Ok(())
+}
+
+const FETCHED: [(&str, Row, Option<State>, Want); 6] = [
+    (
+        "admin",
+        Row::Fetch(1, "city"),
+        INGESTED,
+        Want::Unknown(Thing::Desk),
+    ),
+    ("admin", Row::Desk("city"), None, Want::Done),
+    (
+        "admin",
+        Row::Fetch(1, "city"),
+        INGESTED,
+        Want::NotMember("city"),
+    ),
+    (
+        "admin",
+        Row::Member("city", "admin", true),
+        None,
+        Want::Done,
+    ),
+    (
+        "admin",
+        Row::Fetch(1, "city"),
+        DRAFT,
+        Want::WrongState(State::Draft),
+    ),
+    ("admin", Row::Fetch(1, "city"), INGESTED, Want::Done),
+];
+
+#[test]
+fn what_comes_in_stands_where_it_is_put(rt: HostRuntime) -> Result<(), Fail> {
+    let alloc = rt.alloc();
+    let mut desks = Desks::new(alloc)?;
+    make_item(&mut desks, None)?;
+    assert!(rt; desks.place(1) == None);
+    run(&rt, alloc, &mut desks, &FETCHED)?;
+    make_item(&mut desks, Some(place(&rt, "city", "working")))?;
+    assert!(rt; desks.place(1) == Some(place(&rt, "city", "incoming")));
+    assert!(rt; desks.place(2) == Some(place(&rt, "city", "working")));
+    assert!(rt; desks.holder(2) == None);
+    Ok(())
+}
+
+/// Adds one more of these, a stage to `city`: why it is denied, if it is.
+fn add_numbered(
+    rt: &impl Abort,
+    alloc: Global,
+    desks: &mut Desks,
+    which: Thing,
+    number: u32,
+) -> Result<Option<Denial>, Memory> {
+    let word = format!(in alloc; "n{number}")?;
+    let row = match which {
+        Thing::User => Row::User(word.as_str(), WRITE),
+        Thing::Desk => Row::Desk(word.as_str()),
+        _ => Row::Stage("city", word.as_str()),
+    };
+    let admin = name(rt, "admin");
+    let command = command(rt, alloc, row)?;
+    let denial = denied(desks, &admin, &command, None);
+    if denial.is_none() {
+        apply(desks, &admin, &command)?;
+    }
+    Ok(denial)
+}
+
+/// Adds these until there are too many.
+fn fill(
+    rt: &impl Abort,
+    alloc: Global,
+    desks: &mut Desks,
+    which: Thing,
+    more: u32,
+) -> Result<Option<Denial>, Memory> {
+    for number in 0..more {
+        let denial = add_numbered(rt, alloc, desks, which, number)?;
+        assert!(rt; denial == None, "{number}");
+    }
+    add_numbered(rt, alloc, desks, which, more)
+}
+
+// How many more there may be: one user is there from the start, and a desk has two stages.
+const LIMITS: [(Thing, u32, u32); 3] = [
+    (Thing::User, 4095, 4096),
+    (Thing::Stage, 62, 64),
+    (Thing::Desk, 255, 256),
+];
+
+#[test]
+fn tables_are_full_at_their_limits(rt: HostRuntime) -> Result<(), Fail> {
+    let alloc = rt.alloc();
+    let mut desks = Desks::new(alloc)?;
+    run(
+        &rt,
+        alloc,
+        &mut desks,
+        &[("admin", Row::Desk("city"), None, Want::Done)],
+    )?;
+    for (which, more, number) in LIMITS {
+        let denial = fill(&rt, alloc, &mut desks, which, more)?;
+        assert!(rt; denial == Some(Denial::Limit { which, number }), "{number}");
+    }
+    run(
+        &rt,
+        alloc,
+        &mut desks,
+        &[("admin", Row::Stage("n0", "layout"), None, Want::Done)],
+    )?;
     Ok(())
 }

@@ -1,5 +1,5 @@
 -- How long an entry's bytes are at most.
-use Rattle.std.proofs.Common.{ℕ, ◌<◌, ◌≤◌, ◌*◌, List, [], ◌∷◌, length, Option, Some, None, Bool, true, false, ap, arith, length-append}
+use Rattle.std.proofs.Common.{ℕ, ◌==◌, ◌+◌, ◌<◌, ◌≤◌, ◌*◌, cond, List, [], ◌∷◌, length, Option, Some, None, Bool, true, false, ap, arith, length-append}
 use Rattle.std.specs.Prelude.{All}
 use Rattle.std.specs.List.{flat_map, AllByRecursion}
 use Rattle.std.proofs.Math.Nat.{suc-mul, mul-le-mul_right}
@@ -16,10 +16,11 @@ use Rattle.news_types.specs.declared.entry.Act.{Act}
 use Rattle.news_types.specs.declared.entry.Act.TheVariants.{Advance, Attempt, Receipt, Halt, Ingest, Request}
 use Rattle.news_types.specs.declared.entry.Entry.{Entry}
 use Rattle.byte_formats.specs.Spelling.{◌&◌, IsName, IsOption, byte, u16, u32, u64, name, text, list, option, flag}
+use Rattle.byte_formats.specs.Except.{is_empty}
 use Rattle.byte_formats.proofs.Names.{name_parts}
-use Rattle.entry_codec.specs.Spelling.{field_number, op_number, how_number, format_number, status_number, story, incoming, statement, place, rule, command, act, entry_bytes}
+use Rattle.entry_codec.specs.Spelling.{field_number, op_number, how_number, format_number, status_number, plain_story, story, with_lag, with_given, incoming, statement, place, rule, command, act, entry_bytes}
 use Rattle.news_types.specs.Fits.{FitsStory, FitsIncoming}
-use Rattle.entry_codec.specs.Fits.{FitsValues, FitsStatement, FitsStatements, FitsRule, FitsScheme}
+use Rattle.news_types.specs.FitsCommands.{FitsValues, FitsStatement, FitsStatements, FitsRule, FitsScheme}
 use Rattle.entry_codec.specs.Formed.{IsFormedStatement, IsFormedPlace, IsFormedRule, IsEntry}
 use Rattle.entry_codec.proofs.CommandLaws.{IsCommand}
 use Rattle.entry_codec.proofs.EntryLaws.{IsAct}
@@ -56,8 +57,8 @@ flag_len true = omega arith
 values_len : (vs : List (List ℕ)) → FitsValues vs → length (flat_map text vs) ≤ 64 * 504
 values_len vs h = list_len text 504 64 vs h.few (All-weaker (λ v. length v ≤ 500) (λ v. length (text v) ≤ 504) (λ v p. omega arith) vs h.short)
 
-story_len : (s : Story) → FitsStory s → length (story s) ≤ 264000
-story_len s h =
+plain_len : (s : Story) → FitsStory s → length (plain_story s) ≤ 526200
+plain_len s h =
     let e = text s.headline & text s.byline & text s.language & text s.category & text s.body & flag s.html in
     let d = text s.byline & text s.language & text s.category & text s.body & flag s.html in
     let c = text s.language & text s.category & text s.body & flag s.html in
@@ -80,7 +81,25 @@ story_len s h =
       length-append s.body (flag s.html),
     )
 
-incoming_len : (i : Incoming) → FitsIncoming i → length (incoming i) ≤ 265000
+story_len : (s : Story) → FitsStory s → length (story s) ≤ 526800
+story_len s h = by (is_empty s.copyright)
+  where
+    by : (b : Bool) → length (cond b (plain_story s) (plain_story s & text s.copyright)) ≤ 526800
+    by true = omega (arith, plain_len s h)
+    by false = omega (arith, plain_len s h, h.copyright, length-append (plain_story s) (text s.copyright))
+
+late_len : (fields : List ℕ) (lag : ℕ) → length (with_lag fields lag) ≤ length fields + 4
+late_len fields lag = by (lag == 0)
+  where
+    by : (b : Bool) → length (cond b fields (fields & u32 lag)) ≤ length fields + 4
+    by true = omega arith
+    by false = omega (arith, length-append fields (u32 lag))
+
+given_len : (fields : List ℕ) (lag : Option ℕ) → length (with_given fields lag) ≤ length fields + 4
+given_len fields None = omega arith
+given_len fields (Some lag) = omega (arith, length-append fields (u32 lag))
+
+incoming_len : (i : Incoming) → FitsIncoming i → length (incoming i) ≤ 528000
 incoming_len i h = omega (arith, h.identity, story_len i.story h.story, length-append i.identity (u64 i.created & u64 i.embargo & byte (status_number i.status) & story i.story))
 
 statement_len : (s : Statement) → FitsStatement s → IsFormedStatement s → length (statement s) ≤ 800
@@ -115,7 +134,7 @@ rules_len xs f g = list_len rule 200 64 xs f.few (λ k d l. rule_len _ (f.each k
 
 -- ---- commands, acts and entries
 
-command_len : (c : Command) → IsCommand c → length (command c) ≤ 280000
+command_len : (c : Command) → IsCommand c → length (command c) ≤ 540000
 command_len (AddUser user set) h = omega (arith, name_len user h.formed, length-append user (u16 set.bits))
 command_len (SetUser user set) h = omega (arith, name_len user h.formed, length-append user (u16 set.bits))
 command_len (AddDesk desk) h = omega (arith, name_len desk h.formed)
@@ -127,8 +146,8 @@ command_len (SetFilter by statements) h = omega (arith, name_len by h.formed.0, 
 command_len (SetBlock by on) h = omega (arith, name_len by h.formed, flag_len on, length-append by (flag on))
 command_len (AddProduct product selects by) h = omega (arith, name_len product h.formed.0, optional_name_len by h.formed.1, length-append product (byte (how_number selects) & option name by))
 command_len (SetProduct product selects by) h = omega (arith, name_len product h.formed.0, optional_name_len by h.formed.1, length-append product (byte (how_number selects) & option name by))
-command_len (AddSubscriber subscriber form products) h = omega (arith, name_len subscriber h.formed.0, names_len 64 products h.fits h.formed.1, length-append subscriber (byte (format_number form) & list name products))
-command_len (SetSubscriber subscriber active products off) h = omega (arith, name_len subscriber h.formed.0, flag_len active, names_len 64 products h.fits.0 h.formed.1, names_len 64 off h.fits.1 h.formed.2, length-append subscriber (flag active & list name products & list name off), length-append (flag active) (list name products & list name off), length-append (flat_map name products) (list name off))
+command_len (AddSubscriber subscriber form products lag) h = omega (arith, name_len subscriber h.formed.0, names_len 64 products h.fits.0 h.formed.1, late_len (list name products) lag, length-append subscriber (byte (format_number form) & with_lag (list name products) lag))
+command_len (SetSubscriber subscriber active products off lag) h = omega (arith, name_len subscriber h.formed.0, flag_len active, names_len 64 products h.fits.0 h.formed.1, names_len 64 off h.fits.1 h.formed.2, given_len (list name off) lag, length-append subscriber (flag active & list name products & with_given (list name off) lag), length-append (flag active) (list name products & with_given (list name off) lag), length-append (flat_map name products) (with_given (list name off) lag))
 command_len (Resume subscriber) h = omega (arith, name_len subscriber h.formed)
 command_len (AddScheme scheme inside) h = omega (arith, name_len scheme h.formed.0, rules_len inside h.fits h.formed.1, length-append scheme (list rule inside))
 command_len (AddProvider provider scheme) h = omega (arith, name_len provider h.formed.0, optional_name_len scheme h.formed.1, length-append provider (option name scheme))
@@ -149,7 +168,7 @@ command_len (Recall item session note) h = omega (arith, name_len session h.form
 command_len (Deschedule item) h = omega arith
 command_len Stop h = omega arith
 
-act_len : (a : Act) → IsAct a → length (act a) ≤ 290000
+act_len : (a : Act) → IsAct a → length (act a) ≤ 550000
 act_len Advance h = omega arith
 act_len (Attempt subscriber k) h = omega (arith, name_len subscriber h.formed.0, length-append subscriber (u32 k))
 act_len (Receipt subscriber n) h = omega (arith, name_len subscriber h.formed.0, length-append subscriber (u32 n))

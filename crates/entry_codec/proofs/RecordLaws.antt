@@ -1,24 +1,29 @@
 -- The laws of stories, of what providers send, and of statements, places and rules.
-use Rattle.std.proofs.Common.{◌≡◌, ℕ, ◌<◌, ◌≤◌, ◌^◌, List, Option, refl, arith, Bool}
+use Rattle.std.proofs.Common.{◌≡◌, ℕ, ◌<◌, ◌≤◌, ◌^◌, ◌⊎◌, inl, inr, List, [], ◌∷◌, ◌++◌, Option, refl, sym, ap, ◌∙◌, arith, Bool, false, cond}
+use Rattle.std.specs.Prelude.{IsUtf8}
 use Rattle.std.specs.Int.{w32}
 use Rattle.news_types.specs.declared.story.Story.{Story}
 use Rattle.news_types.specs.declared.story.Incoming.{Incoming}
 use Rattle.news_types.specs.declared.rules.Statement.{Statement}
 use Rattle.news_types.specs.declared.rules.Rule.{Rule}
-use Rattle.byte_formats.specs.Spelling.{IsName, IsText, IsList, IsOption}
+use Rattle.byte_formats.specs.Spelling.{IsName, IsText, IsList, IsOption, text as text_bytes}
+use Rattle.byte_formats.specs.Except.{is_empty, some_text}
+use Rattle.byte_formats.proofs.Except.{some_text_lawful}
 use Rattle.byte_formats.specs.Format.{Format, pair, ranged, whole}
 use Rattle.byte_formats.specs.Fields.{name, text, option, list, flag}
 use Rattle.byte_formats.proofs.Laws.{Lawful, via}
 use Rattle.byte_formats.proofs.Fields.{pair_lawful, ranged_lawful}
 use Rattle.byte_formats.proofs.Numbers.{wide32, whole_lawful}
 use Rattle.byte_formats.proofs.Names.{name_lawful}
-use Rattle.byte_formats.proofs.Texts.{text_lawful}
+use Rattle.byte_formats.proofs.Texts.{text_lawful, scan_utf8}
 use Rattle.byte_formats.proofs.Options.{option_lawful, list_lawful, flag_lawful}
 use Rattle.news_types.specs.Fits.{IsMoment, FitsStory, FitsIncoming}
-use Rattle.entry_codec.specs.Fits.{FitsStatement, FitsRule}
+use Rattle.news_types.specs.FitsCommands.{FitsStatement, FitsRule}
 use Rattle.entry_codec.specs.Formed.{IsFormedStory, IsFormedIncoming, IsFormedStatement, IsFormedPlace, IsFormedRule}
+use Rattle.entry_codec.specs.Spelling as spelled
+use Rattle.entry_codec.specs.Spelling.{plain_story, with_credit}
 use Rattle.entry_codec.specs.Reading as reading
-use Rattle.entry_codec.specs.Reading.{story_at, story_fields, story_of, incoming_at, incoming_fields, incoming_of, statement_at, statement_fields, place_at, rule_at, rule_fields, rule_of}
+use Rattle.entry_codec.specs.Reading.{story_at, story_fields, story_of, credited_at, credited_fields, credited_of, incoming_at, credited_incoming_at, incoming_fields, incoming_of, statement_at, statement_fields, place_at, rule_at, rule_fields, rule_of}
 use Rattle.entry_codec.proofs.WordLaws.{Any, kind_lawful, status_lawful, moment_lawful}
 
 -- ---- a format with its law
@@ -68,7 +73,19 @@ pub record IsStory (s : Story) : Type 0 where
 abbrev story_kept : Kept reading.StoryFields
 story_kept =
     both (kept reading.kind Any kind_lawful) (both (a_byte 9) (both (a_text 500 (omega arith)) (both (a_text 500 (omega arith)) (both (a_text 500 (omega arith))
-    (both (a_text 35 (omega arith)) (both (a_text 3 (omega arith)) (both (a_text 262144 (omega arith)) a_flag)))))))
+    (both (a_text 35 (omega arith)) (both (a_text 3 (omega arith)) (both (a_text 524288 (omega arith)) a_flag)))))))
+
+-- one without a copyright, and one with it
+pub record IsPlain (s : Story) : Type 0 where
+  pub is : IsStory s
+  pub none : s.copyright ≡ []
+
+pub record IsCredited (s : Story) : Type 0 where
+  pub is : IsStory s
+  pub some : is_empty s.copyright ≡ false
+
+no_bytes : IsUtf8 []
+no_bytes = scan_utf8 0 [] tt
 
 story_to : (p : reading.StoryFields) → story_kept.holds p → IsStory (story_of p)
 story_to p h = record {
@@ -80,29 +97,90 @@ story_to p h = record {
     language = h.1.1.1.1.1.0.0;
     category = h.1.1.1.1.1.1.0.0;
     body = h.1.1.1.1.1.1.1.0.0;
+    copyright = omega arith;
   };
   formed = record {
-    slugline = h.1.1.0.1;
-    headline = h.1.1.1.0.1;
-    byline = h.1.1.1.1.0.1;
-    language = h.1.1.1.1.1.0.1;
-    category = h.1.1.1.1.1.1.0.1;
-    body = h.1.1.1.1.1.1.1.0.1;
+    plain = record {
+      slugline = h.1.1.0.1;
+      headline = h.1.1.1.0.1;
+      byline = h.1.1.1.1.0.1;
+      language = h.1.1.1.1.1.0.1;
+      category = h.1.1.1.1.1.1.0.1;
+      body = h.1.1.1.1.1.1.1.0.1;
+    };
+    copyright = no_bytes;
   };
 }
 
-story_back : (s : Story) → IsStory s → (p : reading.StoryFields) × story_kept.holds p × (story_of p ≡ s)
+story_back : (s : Story) → IsPlain s → (p : reading.StoryFields) × story_kept.holds p × (story_of p ≡ s)
 story_back s h =
-    let f = h.fits in
-    let g = h.formed in (
+    let f = h.is.fits in
+    let g = h.is.formed.plain in (
       (s.kind, (s.urgency, (s.slugline, (s.headline, (s.byline, (s.language, (s.category, (s.body, s.html)))))))),
       (tt, ((omega arith, f.urgency), ((f.slugline, g.slugline), ((f.headline, g.headline), ((f.byline, g.byline), ((f.language, g.language), ((f.category, g.category), ((f.body, g.body), tt)))))))),
-      refl,
+      ap (λ (c : List ℕ). record s { copyright = c }) (sym h.none),
     )
 
-pub story_lawful : Lawful reading.story IsStory
+pub story_lawful : Lawful reading.story IsPlain
 unfolding story_at
-story_lawful = via story_fields story_kept.holds reading.story IsStory story_of story_kept.law (λ bytes. refl) (λ p h. (story_to p h, refl)) story_back
+story_lawful = via story_fields story_kept.holds reading.story IsPlain story_of story_kept.law (λ bytes. refl) (λ p h. (record { is = story_to p h; none = refl }, refl)) story_back
+
+-- ---- with a copyright
+
+abbrev credited_kept : Kept (Story × List ℕ)
+credited_kept = both (kept reading.story IsPlain story_lawful) (kept (some_text 500) (λ t. IsText 500 t × (is_empty t ≡ false)) (some_text_lawful 500 (omega arith) (omega arith)))
+
+abbrev with_copyright : Story → List ℕ → Story
+with_copyright s c = record s { copyright = c }
+
+copyright_changed : (s : Story) (c : List ℕ) → IsStory s → IsText 500 c → IsStory (with_copyright s c)
+copyright_changed s c h text = record {
+  fits = record {
+    urgency = h.fits.urgency;
+    slugline = h.fits.slugline;
+    headline = h.fits.headline;
+    byline = h.fits.byline;
+    language = h.fits.language;
+    category = h.fits.category;
+    body = h.fits.body;
+    copyright = text.0;
+  };
+  formed = record {
+    plain = record {
+      slugline = h.formed.plain.slugline;
+      headline = h.formed.plain.headline;
+      byline = h.formed.plain.byline;
+      language = h.formed.plain.language;
+      category = h.formed.plain.category;
+      body = h.formed.plain.body;
+    };
+    copyright = text.1;
+  };
+}
+
+credited_spelled : (s : Story) (c : List ℕ) → s.copyright ≡ [] → is_empty c ≡ false → spelled.story (with_copyright s c) ≡ spelled.story s ++ text_bytes c
+credited_spelled s c none some =
+    ap (λ (b : Bool). cond b (plain_story s) (plain_story s ++ text_bytes c)) some
+    ∙ ap (λ (t : List ℕ). with_credit (plain_story s) t ++ text_bytes c) (sym none)
+
+credited_to : (p : Story × List ℕ) → credited_kept.holds p → IsCredited (credited_of p) × (spelled.story (credited_of p) ≡ spelled.story p.0 ++ text_bytes p.1)
+credited_to p h = (record { is = copyright_changed p.0 p.1 h.0.is h.1.0; some = h.1.1 }, credited_spelled p.0 p.1 h.0.none h.1.1)
+
+credited_back : (s : Story) → IsCredited s → (p : Story × List ℕ) × credited_kept.holds p × (credited_of p ≡ s)
+credited_back s h = (
+  (with_copyright s [], s.copyright),
+  (record { is = copyright_changed s [] h.is (omega arith, no_bytes); none = refl }, ((h.is.fits.copyright, h.is.formed.copyright), h.some)),
+  refl,
+)
+
+pub credited_lawful : Lawful reading.credited IsCredited
+unfolding credited_at
+credited_lawful = via credited_fields credited_kept.holds reading.credited IsCredited credited_of credited_kept.law (λ bytes. refl) credited_to credited_back
+
+-- a story is one of the two
+pub plain_or : (c : List ℕ) → (c ≡ []) ⊎ (is_empty c ≡ false)
+plain_or [] = inl refl
+plain_or (b ∷ bytes) = inr refl
 
 -- ---- what providers send
 
@@ -110,24 +188,56 @@ pub record IsIncoming (i : Incoming) : Type 0 where
   pub fits : FitsIncoming i
   pub formed : IsFormedIncoming i
 
-abbrev incoming_kept : Kept reading.IncomingFields
-incoming_kept = both (a_text 256 (omega arith)) (both a_moment (both a_moment (both (kept reading.status Any status_lawful) (kept reading.story IsStory story_lawful))))
+pub record IsPlainIncoming (i : Incoming) : Type 0 where
+  pub is : IsIncoming i
+  pub none : i.story.copyright ≡ []
 
-incoming_to : (p : reading.IncomingFields) → incoming_kept.holds p → IsIncoming (incoming_of p)
-incoming_to p h = record {
-  fits = record { identity = h.0.0; created = h.1.0; embargo = h.1.1.0; story = h.1.1.1.1.fits };
-  formed = record { identity = h.0.1; story = h.1.1.1.1.formed };
-}
+pub record IsCreditedIncoming (i : Incoming) : Type 0 where
+  pub is : IsIncoming i
+  pub some : is_empty i.story.copyright ≡ false
 
-incoming_back : (i : Incoming) → IsIncoming i → (p : reading.IncomingFields) × incoming_kept.holds p × (incoming_of p ≡ i)
-incoming_back i h =
-    let f = h.fits in
-    let g = h.formed in
-    ((i.identity, (i.created, (i.embargo, (i.status, i.story)))), ((f.identity, g.identity), (f.created, (f.embargo, (tt, record { fits = f.story; formed = g.story })))), refl)
+abbrev incoming_kept : Kept Story → Kept reading.IncomingFields
+incoming_kept told = both (a_text 256 (omega arith)) (both a_moment (both a_moment (both (kept reading.status Any status_lawful) told)))
 
-pub incoming_lawful : Lawful reading.incoming IsIncoming
+abbrev pub plain_told : Kept Story
+plain_told = kept reading.story IsPlain story_lawful
+
+abbrev pub credited_told : Kept Story
+credited_told = kept reading.credited IsCredited credited_lawful
+
+pub incoming_lawful : Lawful reading.incoming IsPlainIncoming
 unfolding incoming_at
-incoming_lawful = via incoming_fields incoming_kept.holds reading.incoming IsIncoming incoming_of incoming_kept.law (λ bytes. refl) (λ p h. (incoming_to p h, refl)) incoming_back
+incoming_lawful =
+    via (incoming_fields reading.story) (incoming_kept plain_told).holds reading.incoming IsPlainIncoming incoming_of (incoming_kept plain_told).law (λ bytes. refl)
+    (λ p h. (
+      record {
+        is = record {
+          fits = record { identity = h.0.0; created = h.1.0; embargo = h.1.1.0; story = h.1.1.1.1.is.fits };
+          formed = record { identity = h.0.1; story = h.1.1.1.1.is.formed };
+        };
+        none = h.1.1.1.1.none;
+      },
+      refl,
+    ))
+    (λ i h. let f = h.is.fits in let g = h.is.formed in
+    ((i.identity, (i.created, (i.embargo, (i.status, i.story)))), ((f.identity, g.identity), (f.created, (f.embargo, (tt, record { is = record { fits = f.story; formed = g.story }; none = h.none })))), refl))
+
+pub credited_incoming_lawful : Lawful reading.credited_incoming IsCreditedIncoming
+unfolding credited_incoming_at
+credited_incoming_lawful =
+    via (incoming_fields reading.credited) (incoming_kept credited_told).holds reading.credited_incoming IsCreditedIncoming incoming_of (incoming_kept credited_told).law (λ bytes. refl)
+    (λ p h. (
+      record {
+        is = record {
+          fits = record { identity = h.0.0; created = h.1.0; embargo = h.1.1.0; story = h.1.1.1.1.is.fits };
+          formed = record { identity = h.0.1; story = h.1.1.1.1.is.formed };
+        };
+        some = h.1.1.1.1.some;
+      },
+      refl,
+    ))
+    (λ i h. let f = h.is.fits in let g = h.is.formed in
+    ((i.identity, (i.created, (i.embargo, (i.status, i.story)))), ((f.identity, g.identity), (f.created, (f.embargo, (tt, record { is = record { fits = f.story; formed = g.story }; some = h.some })))), refl))
 
 -- ---- statements, places and rules
 

@@ -1,5 +1,5 @@
 -- The formats of commands, acts and entries.
-use Rattle.std.specs.Prelude.{ℕ, List, [], ◌∷◌, Bool, Option, Result, nat_lt, ◌==◌, if◌then◌else◌}
+use Rattle.std.specs.Prelude.{ℕ, List, [], ◌∷◌, Bool, Option, Some, None, Result, nat_lt, ◌==◌, if◌then◌else◌}
 use Rattle.std.specs.Int.{w32, w64}
 use Rattle.news_types.specs.declared.words.Field.{Field}
 use Rattle.news_types.specs.declared.words.Op.{Op}
@@ -15,10 +15,12 @@ use Rattle.news_types.specs.declared.command.Command.TheVariants.{AddUser, SetUs
 use Rattle.news_types.specs.declared.entry.Act.{Act}
 use Rattle.news_types.specs.declared.entry.Act.TheVariants.{Advance, Attempt, Receipt, Halt, Ingest, Request}
 use Rattle.news_types.specs.declared.entry.Entry.{Entry}
-use Rattle.byte_formats.specs.Format.{Format, chain, pair, made, nothing, ranged, whole}
+use Rattle.byte_formats.specs.Format.{Format, chain, pair, made, nothing, ranged, whole, upto}
 use Rattle.byte_formats.specs.Fields.{name, text, option, list, flag}
+use Rattle.byte_formats.specs.Except.{from_one}
 use Rattle.entry_codec.specs.Spelling as spelled
-use Rattle.entry_codec.specs.Reading.{privileges, field, op, how, feed_format, moment, story, incoming, statement, rule}
+use Rattle.entry_codec.specs.Spelling.{by_credit, by_lag, by_given}
+use Rattle.entry_codec.specs.Reading.{privileges, field, op, how, feed_format, moment, story, credited, incoming, credited_incoming, statement, rule}
 
 -- ---- the fields behind a tag
 
@@ -49,23 +51,30 @@ new_subscriber_fields = pair name (pair feed_format (list 64 name))
 abbrev pub subscriber_fields : Format (List ℕ × (Bool × (List (List ℕ) × List (List ℕ))))
 subscriber_fields = pair name (pair flag (pair (list 64 name) (list 64 name)))
 
+-- the same with a lag that is not 0, and with one that is given
+abbrev pub late_subscriber_fields : Format (List ℕ × (FeedFormat × (List (List ℕ) × ℕ)))
+late_subscriber_fields = pair name (pair feed_format (pair (list 64 name) (from_one w32 604800)))
+
+abbrev pub lagged_subscriber_fields : Format (List ℕ × (Bool × (List (List ℕ) × (List (List ℕ) × ℕ))))
+lagged_subscriber_fields = pair name (pair flag (pair (list 64 name) (pair (list 64 name) (upto w32 604800))))
+
 abbrev pub rules_of_fields : Format (List ℕ × List Rule)
 rules_of_fields = pair name (list 64 rule)
 
 abbrev pub provider_fields : Format (List ℕ × Option (List ℕ))
 provider_fields = pair name (option name)
 
-abbrev pub draft_fields : Format (List ℕ × Story)
-draft_fields = pair name story
+abbrev pub draft_fields : Format Story → Format (List ℕ × Story)
+draft_fields told = pair name told
 
-abbrev pub flashed_fields : Format (Story × List (List ℕ))
-flashed_fields = pair story (list 256 name)
+abbrev pub flashed_fields : Format Story → Format (Story × List (List ℕ))
+flashed_fields told = pair told (list 256 name)
 
 abbrev pub named_item_fields : Format (ℕ × List ℕ)
 named_item_fields = pair (whole w32) name
 
-abbrev pub edited_fields : Format (ℕ × (List ℕ × Story))
-edited_fields = pair (whole w32) (pair name story)
+abbrev pub edited_fields : Format Story → Format (ℕ × (List ℕ × Story))
+edited_fields told = pair (whole w32) (pair name told)
 
 abbrev pub moved_fields : Format (ℕ × (List ℕ × List ℕ))
 moved_fields = pair (whole w32) (pair name name)
@@ -74,9 +83,44 @@ abbrev pub published_fields : Format (ℕ × (List ℕ × (Option ℕ × (Option
 published_fields = pair (whole w32) (pair name (pair (option moment) (pair (option moment) (list 256 name))))
 
 abbrev pub withdrawn_fields : Format (ℕ × (List ℕ × List ℕ))
-withdrawn_fields = pair (whole w32) (pair name (text 262144))
+withdrawn_fields = pair (whole w32) (pair name (text 524288))
 
 -- ---- commands
+
+-- a command's place among the commands: its tag, where it has no copyright and no lag
+abbrev pub place_of : Command → ℕ
+place_of (AddUser _ _) = 1
+place_of (SetUser _ _) = 2
+place_of (AddDesk _) = 3
+place_of (AddStage _ _) = 4
+place_of (SetMember _ _ _) = 5
+place_of (AddCondition _ _ _ _) = 6
+place_of (AddFilter _ _) = 7
+place_of (SetFilter _ _) = 8
+place_of (SetBlock _ _) = 9
+place_of (AddProduct _ _ _) = 10
+place_of (SetProduct _ _ _) = 11
+place_of (AddSubscriber _ _ _ _) = 12
+place_of (SetSubscriber _ _ _ _ _) = 13
+place_of (Resume _) = 14
+place_of (AddScheme _ _) = 15
+place_of (AddProvider _ _) = 16
+place_of (Create _ _) = 17
+place_of (Flash _ _) = 18
+place_of (Lock _ _) = 19
+place_of (Unlock _ _) = 20
+place_of (BreakLock _) = 21
+place_of (Edit _ _ _) = 22
+place_of (MoveTo _ _ _) = 23
+place_of (Spike _) = 24
+place_of (Unspike _ _) = 25
+place_of (Fetch _ _) = 26
+place_of (Publish _ _ _ _ _) = 27
+place_of (Correct _ _ _) = 28
+place_of (Kill _ _ _) = 29
+place_of (Recall _ _ _) = 30
+place_of (Deschedule _) = 31
+place_of Stop = 32
 
 abbrev pub command_tag : Command → ℕ
 command_tag (AddUser _ _) = 1
@@ -90,35 +134,35 @@ command_tag (SetFilter _ _) = 8
 command_tag (SetBlock _ _) = 9
 command_tag (AddProduct _ _ _) = 10
 command_tag (SetProduct _ _ _) = 11
-command_tag (AddSubscriber _ _ _) = 12
-command_tag (SetSubscriber _ _ _ _) = 13
+command_tag (AddSubscriber _ _ _ lag) = by_lag lag 12 37
+command_tag (SetSubscriber _ _ _ _ lag) = by_given lag 13 38
 command_tag (Resume _) = 14
 command_tag (AddScheme _ _) = 15
 command_tag (AddProvider _ _) = 16
-command_tag (Create _ _) = 17
-command_tag (Flash _ _) = 18
+command_tag (Create _ told) = by_credit told.copyright 17 33
+command_tag (Flash told _) = by_credit told.copyright 18 34
 command_tag (Lock _ _) = 19
 command_tag (Unlock _ _) = 20
 command_tag (BreakLock _) = 21
-command_tag (Edit _ _ _) = 22
+command_tag (Edit _ _ told) = by_credit told.copyright 22 35
 command_tag (MoveTo _ _ _) = 23
 command_tag (Spike _) = 24
 command_tag (Unspike _ _) = 25
 command_tag (Fetch _ _) = 26
 command_tag (Publish _ _ _ _ _) = 27
-command_tag (Correct _ _ _) = 28
+command_tag (Correct _ _ told) = by_credit told.copyright 28 36
 command_tag (Kill _ _ _) = 29
 command_tag (Recall _ _ _) = 30
 command_tag (Deschedule _) = 31
 command_tag Stop = 32
 
 -- the bytes behind the tag
-abbrev pub behind : List ℕ → List ℕ
-behind [] = []
-behind (b ∷ bytes) = bytes
+abbrev pub without_tag : List ℕ → List ℕ
+without_tag [] = []
+without_tag (b ∷ bytes) = bytes
 
 abbrev pub command_of : {A : Type 0} → Format A → (A → Command) → Format Command
-command_of F make = made F make (λ c. behind (spelled.command c))
+command_of F make = made F make (λ c. without_tag (spelled.command c))
 
 -- users, desks, conditions and filters
 abbrev pub desk_commands : ℕ → Format Command
@@ -141,8 +185,8 @@ feed_commands t =
     if t == 9 then command_of block_fields (λ p. SetBlock p.0 p.1)
     else if t == 10 then command_of product_fields (λ p. AddProduct p.0 p.1.0 p.1.1)
     else if t == 11 then command_of product_fields (λ p. SetProduct p.0 p.1.0 p.1.1)
-    else if t == 12 then command_of new_subscriber_fields (λ p. AddSubscriber p.0 p.1.0 p.1.1)
-    else if t == 13 then command_of subscriber_fields (λ p. SetSubscriber p.0 p.1.0 p.1.1.0 p.1.1.1)
+    else if t == 12 then command_of new_subscriber_fields (λ p. AddSubscriber p.0 p.1.0 p.1.1 0)
+    else if t == 13 then command_of subscriber_fields (λ p. SetSubscriber p.0 p.1.0 p.1.1.0 p.1.1.1 None)
     else if t == 14 then command_of name (λ p. Resume p)
     else if t == 15 then command_of rules_of_fields (λ p. AddScheme p.0 p.1)
     else command_of provider_fields (λ p. AddProvider p.0 p.1)
@@ -153,12 +197,12 @@ feed_command_at t = (feed_commands t).read
 -- items that are written and held
 abbrev pub draft_commands : ℕ → Format Command
 draft_commands t =
-    if t == 17 then command_of draft_fields (λ p. Create p.0 p.1)
-    else if t == 18 then command_of flashed_fields (λ p. Flash p.0 p.1)
+    if t == 17 then command_of (draft_fields story) (λ p. Create p.0 p.1)
+    else if t == 18 then command_of (flashed_fields story) (λ p. Flash p.0 p.1)
     else if t == 19 then command_of named_item_fields (λ p. Lock p.0 p.1)
     else if t == 20 then command_of named_item_fields (λ p. Unlock p.0 p.1)
     else if t == 21 then command_of (whole w32) (λ p. BreakLock p)
-    else if t == 22 then command_of edited_fields (λ p. Edit p.0 p.1.0 p.1.1)
+    else if t == 22 then command_of (edited_fields story) (λ p. Edit p.0 p.1.0 p.1.1)
     else if t == 23 then command_of moved_fields (λ p. MoveTo p.0 p.1.0 p.1.1)
     else command_of (whole w32) (λ p. Spike p)
 
@@ -171,7 +215,7 @@ release_commands t =
     if t == 25 then command_of named_item_fields (λ p. Unspike p.0 p.1)
     else if t == 26 then command_of named_item_fields (λ p. Fetch p.0 p.1)
     else if t == 27 then command_of published_fields (λ p. Publish p.0 p.1.0 p.1.1.0 p.1.1.1.0 p.1.1.1.1)
-    else if t == 28 then command_of edited_fields (λ p. Correct p.0 p.1.0 p.1.1)
+    else if t == 28 then command_of (edited_fields story) (λ p. Correct p.0 p.1.0 p.1.1)
     else if t == 29 then command_of withdrawn_fields (λ p. Kill p.0 p.1.0 p.1.1)
     else if t == 30 then command_of withdrawn_fields (λ p. Recall p.0 p.1.0 p.1.1)
     else if t == 31 then command_of (whole w32) (λ p. Deschedule p)
@@ -180,18 +224,32 @@ release_commands t =
 unfoldable pub release_command_at : ℕ → List ℕ → Result (Command × List ℕ) ℕ
 release_command_at t = (release_commands t).read
 
+-- those with a copyright, and subscribers with a lag
+abbrev pub newer_commands : ℕ → Format Command
+newer_commands t =
+    if t == 33 then command_of (draft_fields credited) (λ p. Create p.0 p.1)
+    else if t == 34 then command_of (flashed_fields credited) (λ p. Flash p.0 p.1)
+    else if t == 35 then command_of (edited_fields credited) (λ p. Edit p.0 p.1.0 p.1.1)
+    else if t == 36 then command_of (edited_fields credited) (λ p. Correct p.0 p.1.0 p.1.1)
+    else if t == 37 then command_of late_subscriber_fields (λ p. AddSubscriber p.0 p.1.0 p.1.1.0 p.1.1.1)
+    else command_of lagged_subscriber_fields (λ p. SetSubscriber p.0 p.1.0 p.1.1.0 p.1.1.1.0 (Some p.1.1.1.1))
+
+unfoldable pub newer_command_at : ℕ → List ℕ → Result (Command × List ℕ) ℕ
+newer_command_at t = (newer_commands t).read
+
 abbrev pub one_of : (ℕ → List ℕ → Result (Command × List ℕ) ℕ) → ℕ → Format Command
-one_of at t = record { spell = λ c. behind (spelled.command c); read = at t }
+one_of at t = record { spell = λ c. without_tag (spelled.command c); read = at t }
 
 abbrev pub command_fields : ℕ → Format Command
 command_fields t =
     if nat_lt t 9 then one_of desk_command_at t
     else if nat_lt t 17 then one_of feed_command_at t
     else if nat_lt t 25 then one_of draft_command_at t
-    else one_of release_command_at t
+    else if nat_lt t 33 then one_of release_command_at t
+    else one_of newer_command_at t
 
 unfoldable pub command_at : List ℕ → Result (Command × List ℕ) ℕ
-command_at = (chain (ranged 1 32) command_fields command_tag).read
+command_at = (chain (ranged 1 38) command_fields command_tag).read
 
 abbrev pub command : Format Command
 command = record { spell = spelled.command; read = command_at }
@@ -203,17 +261,20 @@ act_tag Advance = 1
 act_tag (Attempt _ _) = 2
 act_tag (Receipt _ _) = 3
 act_tag Halt = 4
-act_tag (Ingest _ _) = 5
+act_tag (Ingest _ brought) = by_credit brought.story.copyright 5 7
 act_tag (Request _ _ _) = 6
 
 abbrev pub act_of : {A : Type 0} → Format A → (A → Act) → Format Act
-act_of F make = made F make (λ a. behind (spelled.act a))
+act_of F make = made F make (λ a. without_tag (spelled.act a))
 
 abbrev pub counted_fields : Format (List ℕ × ℕ)
 counted_fields = pair name (whole w32)
 
 abbrev pub ingest_fields : Format (List ℕ × Incoming)
 ingest_fields = pair name incoming
+
+abbrev pub credited_ingest_fields : Format (List ℕ × Incoming)
+credited_ingest_fields = pair name credited_incoming
 
 abbrev pub request_fields : Format (List ℕ × (ℕ × Command))
 request_fields = pair name (pair (whole w64) command)
@@ -225,10 +286,11 @@ act_fields t =
     else if t == 3 then act_of counted_fields (λ p. Receipt p.0 p.1)
     else if t == 4 then act_of {A = ℕ} (nothing 0) (λ p. Halt)
     else if t == 5 then act_of ingest_fields (λ p. Ingest p.0 p.1)
-    else act_of request_fields (λ p. Request p.0 p.1.0 p.1.1)
+    else if t == 6 then act_of request_fields (λ p. Request p.0 p.1.0 p.1.1)
+    else act_of credited_ingest_fields (λ p. Ingest p.0 p.1)
 
 unfoldable pub act_at : List ℕ → Result (Act × List ℕ) ℕ
-act_at = (chain (ranged 1 6) act_fields act_tag).read
+act_at = (chain (ranged 1 7) act_fields act_tag).read
 
 abbrev pub act : Format Act
 act = record { spell = spelled.act; read = act_at }

@@ -13,13 +13,17 @@ use Rattle.news_types.specs.declared.entry.Entry.{Entry}
 use Rattle.byte_formats.specs.Spelling.{IsName, IsOption}
 use Rattle.entry_codec.specs.Fits.{Fits}
 
-pub record IsFormedStory (s : Story) : Type 0 where
+pub record IsFormedPlain (s : Story) : Type 0 where
   pub slugline : IsUtf8 s.slugline
   pub headline : IsUtf8 s.headline
   pub byline : IsUtf8 s.byline
   pub language : IsUtf8 s.language
   pub category : IsUtf8 s.category
   pub body : IsUtf8 s.body
+
+pub record IsFormedStory (s : Story) : Type 0 where
+  pub plain : IsFormedPlain s
+  pub copyright : IsUtf8 s.copyright
 
 pub record IsFormedIncoming (i : Incoming) : Type 0 where
   pub identity : IsUtf8 i.identity
@@ -52,8 +56,8 @@ IsFormedCommand (SetFilter filter statements) = IsName filter × All IsFormedSta
 IsFormedCommand (SetBlock filter on) = IsName filter
 IsFormedCommand (AddProduct product how filter) = IsName product × IsOption IsName filter
 IsFormedCommand (SetProduct product how filter) = IsName product × IsOption IsName filter
-IsFormedCommand (AddSubscriber subscriber format products) = IsName subscriber × All IsName products
-IsFormedCommand (SetSubscriber subscriber active products off) = IsName subscriber × All IsName products × All IsName off
+IsFormedCommand (AddSubscriber subscriber format products lag) = IsName subscriber × All IsName products
+IsFormedCommand (SetSubscriber subscriber active products off lag) = IsName subscriber × All IsName products × All IsName off
 IsFormedCommand (Resume subscriber) = IsName subscriber
 IsFormedCommand (AddScheme scheme rules) = IsName scheme × All IsFormedRule rules
 IsFormedCommand (AddProvider provider scheme) = IsName provider × IsOption IsName scheme

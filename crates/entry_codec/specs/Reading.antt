@@ -1,5 +1,5 @@
 -- The formats of entries: how they are read from bytes.
-use Rattle.std.specs.Prelude.{ℕ, zero, suc, List, Bool, Option, Result}
+use Rattle.std.specs.Prelude.{ℕ, zero, suc, List, [], Bool, Option, Result}
 use Rattle.std.specs.Int.{w16, w32, w64}
 use Rattle.news_types.specs.declared.words.Media.{Media}
 use Rattle.news_types.specs.declared.words.Media.TheVariants as media_word
@@ -22,6 +22,7 @@ use Rattle.news_types.specs.declared.rules.Rule.{Rule}
 use Rattle.byte_formats.specs.Spelling.{byte, u16}
 use Rattle.byte_formats.specs.Format.{Format, pair, made, ranged, whole, upto}
 use Rattle.byte_formats.specs.Fields.{name, text, option, list, flag}
+use Rattle.byte_formats.specs.Except.{some_text}
 use Rattle.entry_codec.specs.Spelling as spelled
 use Rattle.entry_codec.specs.Spelling.{media_number, status_number, field_number, op_number, how_number, format_number}
 
@@ -133,8 +134,9 @@ abbrev pub StoryFields : Type 0
 StoryFields = Media × (ℕ × (List ℕ × (List ℕ × (List ℕ × StoryEnd))))
 
 abbrev pub story_fields : Format StoryFields
-story_fields = pair kind (pair (ranged 0 9) (pair (text 500) (pair (text 500) (pair (text 500) (pair (text 35) (pair (text 3) (pair (text 262144) flag)))))))
+story_fields = pair kind (pair (ranged 0 9) (pair (text 500) (pair (text 500) (pair (text 500) (pair (text 35) (pair (text 3) (pair (text 524288) flag)))))))
 
+-- a story without a copyright
 abbrev pub story_of : StoryFields → Story
 story_of p = record {
   kind = p.0;
@@ -146,6 +148,7 @@ story_of p = record {
   category = p.1.1.1.1.1.1.0;
   body = p.1.1.1.1.1.1.1.0;
   html = p.1.1.1.1.1.1.1.1;
+  copyright = [];
 }
 
 unfoldable pub story_at : List ℕ → Result (Story × List ℕ) ℕ
@@ -154,20 +157,40 @@ story_at = (made story_fields story_of spelled.story).read
 abbrev pub story : Format Story
 story = record { spell = spelled.story; read = story_at }
 
+-- one with a copyright
+abbrev pub credited_fields : Format (Story × List ℕ)
+credited_fields = pair story (some_text 500)
+
+abbrev pub credited_of : Story × List ℕ → Story
+credited_of p = record p.0 { copyright = p.1 }
+
+unfoldable pub credited_at : List ℕ → Result (Story × List ℕ) ℕ
+credited_at = (made credited_fields credited_of spelled.story).read
+
+abbrev pub credited : Format Story
+credited = record { spell = spelled.story; read = credited_at }
+
 abbrev pub IncomingFields : Type 0
 IncomingFields = List ℕ × (ℕ × (ℕ × (PubStatus × Story)))
 
-abbrev pub incoming_fields : Format IncomingFields
-incoming_fields = pair (text 256) (pair moment (pair moment (pair status story)))
+-- what a provider sends, with a story of this format
+abbrev pub incoming_fields : Format Story → Format IncomingFields
+incoming_fields told = pair (text 256) (pair moment (pair moment (pair status told)))
 
 abbrev pub incoming_of : IncomingFields → Incoming
 incoming_of p = record { identity = p.0; created = p.1.0; embargo = p.1.1.0; status = p.1.1.1.0; story = p.1.1.1.1 }
 
 unfoldable pub incoming_at : List ℕ → Result (Incoming × List ℕ) ℕ
-incoming_at = (made incoming_fields incoming_of spelled.incoming).read
+incoming_at = (made (incoming_fields story) incoming_of spelled.incoming).read
 
 abbrev pub incoming : Format Incoming
 incoming = record { spell = spelled.incoming; read = incoming_at }
+
+unfoldable pub credited_incoming_at : List ℕ → Result (Incoming × List ℕ) ℕ
+credited_incoming_at = (made (incoming_fields credited) incoming_of spelled.incoming).read
+
+abbrev pub credited_incoming : Format Incoming
+credited_incoming = record { spell = spelled.incoming; read = credited_incoming_at }
 
 -- ---- statements and rules
 

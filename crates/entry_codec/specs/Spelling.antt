@@ -1,5 +1,5 @@
 -- What an entry is in bytes: each field behind the one before it.
-use Rattle.std.specs.Prelude.{ℕ, List, length}
+use Rattle.std.specs.Prelude.{ℕ, List, length, Option, Some, None, ◌==◌, if◌then◌else◌}
 use Rattle.news_types.specs.declared.words.Media.{Media}
 use Rattle.news_types.specs.declared.words.Media.TheVariants as media
 use Rattle.news_types.specs.declared.words.PubStatus.{PubStatus}
@@ -22,6 +22,7 @@ use Rattle.news_types.specs.declared.command.Command.TheVariants.{AddUser, SetUs
 use Rattle.news_types.specs.declared.entry.Act.{Act}
 use Rattle.news_types.specs.declared.entry.Act.TheVariants.{Advance, Attempt, Receipt, Halt, Ingest, Request}
 use Rattle.news_types.specs.declared.entry.Entry.{Entry}
+use Rattle.byte_formats.specs.Except.{is_empty}
 use Rattle.byte_formats.specs.Spelling.{◌&◌, byte, u16, u32, u64, name, text, list, option, flag}
 
 -- ---- words
@@ -73,8 +74,19 @@ format_number format.Text7901 = 1
 
 -- ---- records
 
+-- the first tag where there is no copyright, and else the second
+abbrev pub by_credit : List ℕ → ℕ → ℕ → ℕ
+by_credit copyright plain credited = if is_empty copyright then plain else credited
+
+-- a copyright stands behind the other fields, where there is one
+abbrev pub with_credit : List ℕ → List ℕ → List ℕ
+with_credit told copyright = if is_empty copyright then told else (told & text copyright)
+
+abbrev pub plain_story : Story → List ℕ
+plain_story s = byte (media_number s.kind) & byte s.urgency & text s.slugline & text s.headline & text s.byline & text s.language & text s.category & text s.body & flag s.html
+
 abbrev pub story : Story → List ℕ
-story s = byte (media_number s.kind) & byte s.urgency & text s.slugline & text s.headline & text s.byline & text s.language & text s.category & text s.body & flag s.html
+story s = with_credit (plain_story s) s.copyright
 
 abbrev pub incoming : Incoming → List ℕ
 incoming i = text i.identity & u64 i.created & u64 i.embargo & byte (status_number i.status) & story i.story
@@ -90,6 +102,22 @@ rule r = option name r.filter & byte r.days & u32 r.from & u32 r.to & text r.zon
 
 -- ---- commands, acts and entries
 
+-- the first tag for a lag of 0, and else the second; a lag that is not 0 stands behind the other fields
+abbrev pub by_lag : ℕ → ℕ → ℕ → ℕ
+by_lag lag without late = if lag == 0 then without else late
+
+abbrev pub with_lag : List ℕ → ℕ → List ℕ
+with_lag fields lag = if lag == 0 then fields else (fields & u32 lag)
+
+-- the first tag where no lag is given, and else the second; a lag that is given stands behind the other fields
+abbrev pub by_given : Option ℕ → ℕ → ℕ → ℕ
+by_given None without late = without
+by_given (Some lag) without late = late
+
+abbrev pub with_given : List ℕ → Option ℕ → List ℕ
+with_given fields None = fields
+with_given fields (Some lag) = fields & u32 lag
+
 abbrev pub command : Command → List ℕ
 command (AddUser user privileges) = byte 1 & name user & u16 privileges.bits
 command (SetUser user privileges) = byte 2 & name user & u16 privileges.bits
@@ -102,23 +130,23 @@ command (SetFilter filter statements) = byte 8 & name filter & list statement st
 command (SetBlock filter on) = byte 9 & name filter & flag on
 command (AddProduct product how filter) = byte 10 & name product & byte (how_number how) & option name filter
 command (SetProduct product how filter) = byte 11 & name product & byte (how_number how) & option name filter
-command (AddSubscriber subscriber format products) = byte 12 & name subscriber & byte (format_number format) & list name products
-command (SetSubscriber subscriber active products off) = byte 13 & name subscriber & flag active & list name products & list name off
+command (AddSubscriber subscriber format products lag) = byte (by_lag lag 12 37) & name subscriber & byte (format_number format) & with_lag (list name products) lag
+command (SetSubscriber subscriber active products off lag) = byte (by_given lag 13 38) & name subscriber & flag active & list name products & with_given (list name off) lag
 command (Resume subscriber) = byte 14 & name subscriber
 command (AddScheme scheme rules) = byte 15 & name scheme & list rule rules
 command (AddProvider provider scheme) = byte 16 & name provider & option name scheme
-command (Create desk told) = byte 17 & name desk & story told
-command (Flash told targets) = byte 18 & story told & list name targets
+command (Create desk told) = byte (by_credit told.copyright 17 33) & name desk & story told
+command (Flash told targets) = byte (by_credit told.copyright 18 34) & story told & list name targets
 command (Lock item session) = byte 19 & u32 item & name session
 command (Unlock item session) = byte 20 & u32 item & name session
 command (BreakLock item) = byte 21 & u32 item
-command (Edit item session told) = byte 22 & u32 item & name session & story told
+command (Edit item session told) = byte (by_credit told.copyright 22 35) & u32 item & name session & story told
 command (MoveTo item desk stage) = byte 23 & u32 item & name desk & name stage
 command (Spike item) = byte 24 & u32 item
 command (Unspike item desk) = byte 25 & u32 item & name desk
 command (Fetch item desk) = byte 26 & u32 item & name desk
 command (Publish item session schedule embargo targets) = byte 27 & u32 item & name session & option u64 schedule & option u64 embargo & list name targets
-command (Correct item session told) = byte 28 & u32 item & name session & story told
+command (Correct item session told) = byte (by_credit told.copyright 28 36) & u32 item & name session & story told
 command (Kill item session note) = byte 29 & u32 item & name session & text note
 command (Recall item session note) = byte 30 & u32 item & name session & text note
 command (Deschedule item) = byte 31 & u32 item
@@ -129,7 +157,7 @@ act Advance = byte 1
 act (Attempt subscriber k) = byte 2 & name subscriber & u32 k
 act (Receipt subscriber n) = byte 3 & name subscriber & u32 n
 act Halt = byte 4
-act (Ingest provider brought) = byte 5 & name provider & incoming brought
+act (Ingest provider brought) = byte (by_credit brought.story.copyright 5 7) & name provider & incoming brought
 act (Request caller number asked) = byte 6 & name caller & u64 number & command asked
 
 abbrev pub entry_bytes : Entry → List ℕ

@@ -6,7 +6,7 @@ ghost use Rattle.byte_formats.specs.Spelling.{IsName, IsOption, list as list_byt
 ghost use Rattle.byte_formats.specs.Fields.{name, text, option_at, list_at};
 ghost use Rattle.byte_formats.specs.Gives.{Gives, GivesItems};
 ghost use Rattle.news_types.specs.Fits.{IsMoment};
-ghost use Rattle.entry_codec.specs.Fits.{FitsStatement, FitsRule};
+ghost use Rattle.news_types.specs.FitsCommands.{FitsStatement, FitsRule};
 ghost use Rattle.entry_codec.specs.Formed.{IsFormedPlace, IsFormedStatement, IsFormedRule};
 ghost use Rattle.entry_codec.specs.Reading.{moment, place, statement, rule};
 

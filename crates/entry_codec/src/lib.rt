@@ -13,10 +13,11 @@ mod write_commands;
 mod writing;
 
 pub use fault::CodecFault;
+pub use field::{names, put_names};
 pub use law::{one_spelling_law, record_size_law};
-pub use reading::decode;
+pub use reading::{act_behind, decode};
 pub use small::{SmallRecord, encode_small};
-pub use writing::encode;
+pub use writing::{encode, put_act};
 
 #[cfg(test)]
 mod tests;

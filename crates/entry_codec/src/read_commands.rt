@@ -2,10 +2,10 @@
 
 ghost use Rattle.std.specs.Prelude.{◌≡◌};
 ghost use Rattle.byte_formats.specs.Gives.{Gives};
-ghost use Rattle.entry_codec.specs.Commands.{command_at, desk_command_at, feed_command_at, draft_command_at, release_command_at};
+ghost use Rattle.entry_codec.specs.Commands.{command_at, desk_command_at, feed_command_at, draft_command_at, release_command_at, newer_command_at};
 
 use crate::field::{list, names, option};
-use crate::story::story;
+use crate::story::{credited, story};
 use crate::words::{feed_format, field, how, op, privileges};
 use byte_formats::{Input, Stopped};
 use news_types::{Command, Scheme, Statements, Texts};
@@ -16,12 +16,13 @@ use std::alloc::Global;
 pub fn command(alloc: Global, input: &mut Input) -> Result<Command, Stopped>
     ensures { Gives result input.new (command_at input.old) }
 {
-    let tag = input.byte(1, 32)?;
+    let tag = input.byte(1, 38)?;
     match tag {
         0..=8 => desk_command(alloc, input, tag),
         9..=16 => feed_command(alloc, input, tag),
         17..=24 => draft_command(alloc, input, tag),
-        _ => release_command(alloc, input, tag),
+        25..=32 => release_command(alloc, input, tag),
+        _ => newer_command(alloc, input, tag),
     }
 }
 
@@ -92,12 +93,14 @@ fn feed_command(alloc: Global, input: &mut Input, tag: u8) -> Result<Command, St
             subscriber: input.name()?,
             format: feed_format(input)?,
             products: names(alloc, input, 64)?,
+            lag: 0,
         }),
         13 => Ok(Command::SetSubscriber {
             subscriber: input.name()?,
             active: input.flag()?,
             products: names(alloc, input, 64)?,
             off: names(alloc, input, 64)?,
+            lag: None,
         }),
         14 => Ok(Command::Resume {
             subscriber: input.name()?,
@@ -179,14 +182,54 @@ fn release_command(alloc: Global, input: &mut Input, tag: u8) -> Result<Command,
         29 => Ok(Command::Kill {
             item: input.u32()?,
             session: input.name()?,
-            note: input.text(alloc, 262144)?,
+            note: input.text(alloc, 524288)?,
         }),
         30 => Ok(Command::Recall {
             item: input.u32()?,
             session: input.name()?,
-            note: input.text(alloc, 262144)?,
+            note: input.text(alloc, 524288)?,
         }),
         31 => Ok(Command::Deschedule { item: input.u32()? }),
         _ => Ok(Command::Stop),
+    }
+}
+
+/// Those with a copyright, and subscribers with a lag.
+#[tactic(auto, unfolding(crate::specs::Commands::newer_command_at))]
+fn newer_command(alloc: Global, input: &mut Input, tag: u8) -> Result<Command, Stopped>
+    ensures { Gives result input.new (newer_command_at tag input.old) }
+{
+    match tag {
+        33 => Ok(Command::Create {
+            desk: input.name()?,
+            story: credited(alloc, input)?,
+        }),
+        34 => Ok(Command::Flash {
+            story: credited(alloc, input)?,
+            targets: names(alloc, input, 256)?,
+        }),
+        35 => Ok(Command::Edit {
+            item: input.u32()?,
+            session: input.name()?,
+            story: credited(alloc, input)?,
+        }),
+        36 => Ok(Command::Correct {
+            item: input.u32()?,
+            session: input.name()?,
+            story: credited(alloc, input)?,
+        }),
+        37 => Ok(Command::AddSubscriber {
+            subscriber: input.name()?,
+            format: feed_format(input)?,
+            products: names(alloc, input, 64)?,
+            lag: input.u32_from_one(604800)?,
+        }),
+        _ => Ok(Command::SetSubscriber {
+            subscriber: input.name()?,
+            active: input.flag()?,
+            products: names(alloc, input, 64)?,
+            off: names(alloc, input, 64)?,
+            lag: Some(input.u32_upto(604800)?),
+        }),
     }
 }

@@ -6,14 +6,14 @@ ghost use Rattle.byte_formats.specs.Faults.{IsFaultAt};
 ghost use Rattle.byte_formats.specs.Gives.{Gives, GivesAll, all_of};
 ghost use Rattle.entry_codec.specs.Spelling.{entry_bytes};
 ghost use Rattle.entry_codec.specs.Formed.{IsEntry};
-ghost use Rattle.entry_codec.specs.Commands.{act_at, entry_at, entry};
+ghost use Rattle.entry_codec.specs.Commands.{act_at, act_fields, entry_at, entry};
 ghost use Rattle.entry_codec.specs.Answers.{IsOrMemory};
 ghost use Rattle.entry_codec.specs.declared.fault.CodecFault.TheVariants.{At};
 
 use crate::fault::CodecFault;
 use crate::field::Field;
 use crate::read_commands::command;
-use crate::story::incoming;
+use crate::story::{credited_incoming, incoming};
 use byte_formats::{Input, Stopped};
 use news_types::{Act, Entry, Moment};
 use std::alloc::Global;
@@ -67,7 +67,15 @@ fn whole_entry(alloc: Global, input: &mut Input) -> Result<Entry, Stopped>
 fn act(alloc: Global, input: &mut Input) -> Result<Act, Stopped>
     ensures { Gives result input.new (act_at input.old) }
 {
-    match input.byte(1, 6)? {
+    let tag = input.byte(1, 7)?;
+    act_behind(alloc, input, tag)
+}
+
+/// The act of this tag, from the bytes behind the tag.
+pub fn act_behind(alloc: Global, input: &mut Input, tag: u8) -> Result<Act, Stopped>
+    ensures { Gives result input.new ((act_fields tag).read input.old) }
+{
+    match tag {
         1 => Ok(Act::Advance),
         2 => Ok(Act::Attempt {
             subscriber: input.name()?,
@@ -82,10 +90,14 @@ fn act(alloc: Global, input: &mut Input) -> Result<Act, Stopped>
             provider: input.name()?,
             incoming: incoming(alloc, input)?,
         }),
-        _ => Ok(Act::Request {
+        6 => Ok(Act::Request {
             caller: input.name()?,
             number: input.u64()?,
             command: command(alloc, input)?,
+        }),
+        _ => Ok(Act::Ingest {
+            provider: input.name()?,
+            incoming: credited_incoming(alloc, input)?,
         }),
     }
 }

@@ -1,19 +1,20 @@
 //! Stories, and what providers send.
 
-ghost use Rattle.std.specs.Prelude.{◌≡◌, ◌++◌, OnOk};
+ghost use Rattle.std.specs.Prelude.{◌≡◌, ◌++◌, [], OnOk, Ok};
+ghost use Rattle.byte_formats.specs.Except.{is_empty};
 ghost use Rattle.byte_formats.specs.Gives.{Gives};
-ghost use Rattle.entry_codec.specs.Spelling.{story as story_bytes, incoming as incoming_bytes};
+ghost use Rattle.entry_codec.specs.Spelling.{story as story_bytes, plain_story, by_credit, incoming as incoming_bytes};
 ghost use Rattle.news_types.specs.Fits.{FitsStory, FitsIncoming};
-ghost use Rattle.entry_codec.specs.Formed.{IsFormedStory, IsFormedIncoming};
-ghost use Rattle.entry_codec.specs.Reading.{story_at, incoming_at};
+ghost use Rattle.entry_codec.specs.Formed.{IsFormedStory, IsFormedPlain, IsFormedIncoming};
+ghost use Rattle.entry_codec.specs.Reading.{story_at, credited_at, incoming_at, credited_incoming_at};
 
 use crate::field::{Field, put_byte, put_flag, put_u64};
 use crate::words::{kind, kind_byte, status, status_byte};
 use byte_formats::{Input, Stopped, put_text};
-use news_types::{Incoming, Moment, Story};
+use news_types::{Incoming, Moment, Story, Text};
 use std::alloc::{AllocError, Global};
 
-/// Reads a story.
+/// Reads a story without a copyright.
 #[tactic(auto, unfolding(crate::specs::Reading::story_at))]
 pub fn story(alloc: Global, input: &mut Input) -> Result<Story, Stopped>
     ensures { Gives result input.new (story_at input.old) }
@@ -26,12 +27,30 @@ pub fn story(alloc: Global, input: &mut Input) -> Result<Story, Stopped>
         byline: input.text(alloc, 500)?,
         language: input.text(alloc, 35)?,
         category: input.text(alloc, 3)?,
-        body: input.text(alloc, 262144)?,
+        body: input.text(alloc, 524288)?,
         html: input.flag()?,
+        copyright: no_text(alloc)?,
     })
 }
 
-/// Reads what a provider sends.
+/// Reads a story, and the copyright behind it.
+#[tactic(auto, unfolding(crate::specs::Reading::credited_at))]
+pub fn credited(alloc: Global, input: &mut Input) -> Result<Story, Stopped>
+    ensures { Gives result input.new (credited_at input.old) }
+{
+    let mut story = story(alloc, input)?;
+    story.copyright = input.some_text(alloc, 500)?;
+    Ok(story)
+}
+
+/// The empty text.
+fn no_text(alloc: Global) -> Result<Text, Stopped>
+    ensures { Gives result [] (Ok ([], [])) }
+{
+    Ok(Text::copy_of(alloc, "")?)
+}
+
+/// Reads what a provider sends, a story without a copyright.
 #[tactic(auto, unfolding(crate::specs::Reading::incoming_at))]
 pub fn incoming(alloc: Global, input: &mut Input) -> Result<Incoming, Stopped>
     ensures { Gives result input.new (incoming_at input.old) }
@@ -45,11 +64,53 @@ pub fn incoming(alloc: Global, input: &mut Input) -> Result<Incoming, Stopped>
     })
 }
 
-/// Writes a story.
+/// The same with a copyright.
+#[tactic(auto, unfolding(crate::specs::Reading::credited_incoming_at))]
+pub fn credited_incoming(alloc: Global, input: &mut Input) -> Result<Incoming, Stopped>
+    ensures { Gives result input.new (credited_incoming_at input.old) }
+{
+    Ok(Incoming {
+        identity: input.text(alloc, 256)?,
+        created: Moment::read(alloc, input)?,
+        embargo: Moment::read(alloc, input)?,
+        status: status(input)?,
+        story: credited(alloc, input)?,
+    })
+}
+
+/// Whether the story has no copyright.
+pub fn is_plain(story: &Story) -> bool
+    ensures { result ≡ is_empty story.now.copyright }
+{
+    story.copyright.as_str().is_empty()
+}
+
+/// The first tag for a story without a copyright, and else the second.
+pub fn credit_tag(story: &Story, plain: u8, credited: u8) -> u8
+    ensures { result ≡ by_credit story.now.copyright plain credited }
+{
+    if is_plain(story) { plain } else { credited }
+}
+
+/// Writes a story: its copyright stands behind the other fields, where it has one.
 pub fn put_story(out: &mut Vec<u8>, story: &Story) -> Result<(), AllocError>
     requires { FitsStory story.now }
     ensures bytes { OnOk result (out.new.items ≡ out.old.items ++ story_bytes story.now) }
     ensures form { OnOk result (IsFormedStory story.now) }
+{
+    put_plain_story(out, story)?;
+    if is_plain(story) {
+        return Ok(());
+    }
+    put_text(out, &story.copyright)?;
+    Ok(())
+}
+
+/// Writes a story's fields but for the copyright.
+fn put_plain_story(out: &mut Vec<u8>, story: &Story) -> Result<(), AllocError>
+    requires { FitsStory story.now }
+    ensures bytes { OnOk result (out.new.items ≡ out.old.items ++ plain_story story.now) }
+    ensures form { OnOk result (IsFormedPlain story.now) }
 {
     put_byte(out, kind_byte(story.kind))?;
     put_byte(out, story.urgency)?;

@@ -16,7 +16,7 @@ use std::test::Fail;
 const ASKED: &[u8] = b"\0\0\0\0\0\0\x03\xe8\x06\x05admin\0\0\0\0\0\0\0\x01";
 
 /// Each command.
-const COMMANDS: [(&str, &[u8]); 33] = [
+const COMMANDS: [(&str, &[u8]); 40] = [
     ("add_user", b"\x01\x03eva\x02\x20"),
     ("set_user", b"\x02\x03eva\x03\xff"),
     ("add_desk", b"\x03\x04city"),
@@ -77,13 +77,41 @@ const COMMANDS: [(&str, &[u8]); 33] = [
     ("recall", b"\x1e\0\0\0\x07\x02s1\0\0\0\0"),
     ("deschedule", b"\x1f\0\0\0\x08"),
     ("stop", b"\x20"),
+    (
+        "create",
+        b"\x21\x04city\x05\x09\0\0\0\x01s\0\0\0\x01h\0\0\0\x02by\0\0\0\x02pl\0\0\0\x03pol\0\0\0\x04<p/>\x01\0\0\0\x01X",
+    ),
+    (
+        "flash",
+        b"\x22\0\0\0\0\0\0\0\0\0\0\0\0\0\0\0\0\0\0\0\0\0\0\0\0\0\0\0\0\0\0\x02\xc2\xa9\0\x02\x05alpha\x04beta",
+    ),
+    (
+        "edit",
+        b"\x23\0\0\0\x03\x02s1\x01\x01\0\0\0\0\0\0\0\x01h\0\0\0\0\0\0\0\0\0\0\0\0\0\0\0\0\0\0\0\0\x01X",
+    ),
+    (
+        "correct",
+        b"\x24\0\0\0\x06\x02s1\x04\x05\0\0\0\0\0\0\0\0\0\0\0\0\0\0\0\0\0\0\0\0\0\0\0\x01b\x01\0\0\0\x01X",
+    ),
+    (
+        "add_subscriber",
+        b"\x25\x04beta\x01\0\x02\x03all\x04east\0\0\0\x01",
+    ),
+    (
+        "set_subscriber",
+        b"\x26\x04beta\0\0\x01\x03all\0\x01\x02f1\0\0\0\0",
+    ),
+    (
+        "set_subscriber",
+        b"\x26\x04beta\0\0\x01\x03all\0\x01\x02f1\0\x09\x3a\x80",
+    ),
 ];
 
 /// The moment 1000.
 const MOMENT: &[u8] = b"\0\0\0\0\0\0\x03\xe8";
 
 /// Each other act.
-const ACTS: [(&str, &[u8]); 6] = [
+const ACTS: [(&str, &[u8]); 7] = [
     ("advance", b"\x01"),
     ("attempt", b"\x02\x05alpha\0\0\0\x01"),
     ("receipt", b"\x03\x04beta\xff\xff\xff\xff"),
@@ -95,6 +123,10 @@ const ACTS: [(&str, &[u8]); 6] = [
     (
         "ingest",
         b"\x05\x03pap\0\0\0\x01@\0\0\0\0\0\0\0\0\0\0\0\0\0\0\0\0\x02\x02\0\0\0\0\0\0\0\0\0\0\0\0\0\0\0\0\0\0\0\0\0\0\0\0\0\0",
+    ),
+    (
+        "ingest",
+        b"\x07\x03pap\0\0\0\x04bas1\0\0\0\0\0\0\x03\xe7\0\0\0\0\0\0\x07\xd0\x01\x03\x02\0\0\0\x01s\0\0\0\x01h\0\0\0\0\0\0\0\0\0\0\0\x02pl\0\0\0\x01b\0\0\0\0\x01X",
     ),
 ];
 
@@ -254,6 +286,7 @@ fn adds_alpha(command: &Command) -> bool {
             subscriber,
             format: Format::Ninjs,
             products,
+            lag: 0,
         } => match products.as_slice() {
             [product] => subscriber.as_str() == "alpha" && product.as_str() == "all",
             _ => false,
@@ -277,6 +310,7 @@ fn tells_fire(story: &Story) -> bool {
         (&story.language, "en"),
         (&story.category, ""),
         (&story.body, "Smoke."),
+        (&story.copyright, ""),
     ];
     story.kind == Media::Text
         && story.urgency == 3
@@ -359,7 +393,7 @@ fn reads_and_writes_worked_rows(rt: HostRuntime) -> Result<(), Fail> {
 }
 
 /// Bytes in two pieces that are no entry, and the first byte with which no entry's bytes begin, or where they end too soon.
-const FAULTY: [(&[u8], &[u8], u64); 53] = [
+const FAULTY: [(&[u8], &[u8], u64); 60] = [
     // the moment
     (b"", b"", 0),
     (b"", b"\x01", 0),
@@ -369,7 +403,8 @@ const FAULTY: [(&[u8], &[u8], u64); 53] = [
     // the act
     (MOMENT, b"", 8),
     (MOMENT, b"\0", 8),
-    (MOMENT, b"\x07", 8),
+    (MOMENT, b"\x07", 9),
+    (MOMENT, b"\x08", 8),
     (MOMENT, b"\x09\x05admin\0\0\0\0\0\0\0\x01\x20", 8),
     (MOMENT, b"\x01\0", 9),
     (MOMENT, b"\x03\x05alpha\0\0\0\x02\0", 19),
@@ -389,7 +424,8 @@ const FAULTY: [(&[u8], &[u8], u64); 53] = [
     // the command
     (ASKED, b"", 23),
     (ASKED, b"\0", 23),
-    (ASKED, b"\x21", 23),
+    (ASKED, b"\x21", 24),
+    (ASKED, b"\x27", 23),
     (ASKED, b"\x20\0", 24),
     // words, flags, privileges and options
     (ASKED, b"\x01\x01u\x04\0", 26),
@@ -404,6 +440,20 @@ const FAULTY: [(&[u8], &[u8], u64); 53] = [
         ASKED,
         b"\x1b\0\0\0\x01\x01s\x01\0\0\0\x3a\xff\xf4\x41\x80",
         38,
+    ),
+    // a lag that is 0 or too long, a copyright that is empty or too long
+    (ASKED, b"\x25\x01s\0\0\0\0\0\0\0", 32),
+    (ASKED, b"\x25\x01s\0\0\0\0\x09:\x81", 32),
+    (ASKED, b"\x26\x01s\0\0\0\0\0\0\x09:\x81", 34),
+    (
+        ASKED,
+        b"\x22\0\0\0\0\0\0\0\0\0\0\0\0\0\0\0\0\0\0\0\0\0\0\0\0\0\0\0\0\0\0\0",
+        54,
+    ),
+    (
+        ASKED,
+        b"\x22\0\0\0\0\0\0\0\0\0\0\0\0\0\0\0\0\0\0\0\0\0\0\0\0\0\0\0\0\0\x01\xf5",
+        54,
     ),
     // lists
     (ASKED, b"\x0c\x05alpha\0\0\x41", 32),
@@ -432,7 +482,7 @@ const FAULTY: [(&[u8], &[u8], u64); 53] = [
     ),
     (
         ASKED,
-        b"\x12\0\0\0\0\0\0\0\0\0\0\0\0\0\0\0\0\0\0\0\0\0\0\0\x04\0\x01",
+        b"\x12\0\0\0\0\0\0\0\0\0\0\0\0\0\0\0\0\0\0\0\0\0\0\0\x08\0\x01",
         49,
     ),
     (

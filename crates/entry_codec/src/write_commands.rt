@@ -1,16 +1,17 @@
 //! Writing commands, eight at a time.
 
-ghost use Rattle.std.specs.Prelude.{◌≡◌, ◌<◌, ◌++◌, OnOk};
-ghost use Rattle.entry_codec.specs.Spelling.{command as command_bytes};
-ghost use Rattle.entry_codec.specs.Fits.{FitsCommand};
+ghost use Rattle.std.specs.Prelude.{◌≡◌, ◌<◌, ◌≤◌, ◌++◌, length, All, OnOk};
+ghost use Rattle.byte_formats.specs.Spelling.{IsName, name, list};
+ghost use Rattle.entry_codec.specs.Spelling.{command as command_bytes, with_lag, by_given, with_given};
+ghost use Rattle.news_types.specs.FitsCommands.{FitsCommand};
 ghost use Rattle.entry_codec.specs.Formed.{IsFormedCommand};
-ghost use Rattle.entry_codec.specs.Commands.{command_tag};
+ghost use Rattle.entry_codec.specs.Commands.{place_of};
 
 use crate::field::{put_byte, put_flag, put_list, put_names, put_option, put_u32};
-use crate::story::put_story;
+use crate::story::{credit_tag, put_story};
 use crate::words::{feed_format_byte, field_byte, how_byte, op_byte};
 use byte_formats::{put_name, put_text};
-use news_types::Command;
+use news_types::{Command, Names};
 use std::alloc::AllocError;
 
 /// Writes a command: its tag, and its fields.
@@ -84,7 +85,7 @@ pub fn put_command(out: &mut Vec<u8>, command: &Command) -> Result<(), AllocErro
 /// Those of blocks, products, subscribers, schemes and providers.
 fn put_feed_command(out: &mut Vec<u8>, command: &Command) -> Result<(), AllocError>
     requires fits { FitsCommand command.now }
-    requires other { 8 < command_tag command.now }
+    requires other { 8 < place_of command.now }
     ensures bytes { OnOk result (out.new.items ≡ out.old.items ++ command_bytes command.now) }
     ensures form { OnOk result (IsFormedCommand command.now) }
 {
@@ -121,25 +122,25 @@ fn put_feed_command(out: &mut Vec<u8>, command: &Command) -> Result<(), AllocErr
             subscriber,
             format,
             products,
+            lag,
         } => {
-            put_byte(out, 12)?;
+            put_byte(out, if *lag == 0 { 12 } else { 37 })?;
             put_name(out, subscriber)?;
             put_byte(out, feed_format_byte(*format))?;
-            put_names(out, products)?;
-            Ok(())
+            put_late(out, products, *lag)
         }
         Command::SetSubscriber {
             subscriber,
             active,
             products,
             off,
+            lag,
         } => {
-            put_byte(out, 13)?;
+            put_byte(out, given_tag(lag))?;
             put_name(out, subscriber)?;
             put_flag(out, *active)?;
             put_names(out, products)?;
-            put_names(out, off)?;
-            Ok(())
+            put_given(out, off, lag)
         }
         Command::Resume { subscriber } => {
             put_byte(out, 14)?;
@@ -165,19 +166,19 @@ fn put_feed_command(out: &mut Vec<u8>, command: &Command) -> Result<(), AllocErr
 /// Those of items that are written and held.
 fn put_draft_command(out: &mut Vec<u8>, command: &Command) -> Result<(), AllocError>
     requires fits { FitsCommand command.now }
-    requires other { 16 < command_tag command.now }
+    requires other { 16 < place_of command.now }
     ensures bytes { OnOk result (out.new.items ≡ out.old.items ++ command_bytes command.now) }
     ensures form { OnOk result (IsFormedCommand command.now) }
 {
     match command {
         Command::Create { desk, story } => {
-            put_byte(out, 17)?;
+            put_byte(out, credit_tag(story, 17, 33))?;
             put_name(out, desk)?;
             put_story(out, story)?;
             Ok(())
         }
         Command::Flash { story, targets } => {
-            put_byte(out, 18)?;
+            put_byte(out, credit_tag(story, 18, 34))?;
             put_story(out, story)?;
             put_names(out, targets)?;
             Ok(())
@@ -204,7 +205,7 @@ fn put_draft_command(out: &mut Vec<u8>, command: &Command) -> Result<(), AllocEr
             session,
             story,
         } => {
-            put_byte(out, 22)?;
+            put_byte(out, credit_tag(story, 22, 35))?;
             put_u32(out, *item)?;
             put_name(out, session)?;
             put_story(out, story)?;
@@ -229,7 +230,7 @@ fn put_draft_command(out: &mut Vec<u8>, command: &Command) -> Result<(), AllocEr
 /// Those of items that are placed and published, and stopping.
 fn put_release_command(out: &mut Vec<u8>, command: &Command) -> Result<(), AllocError>
     requires fits { FitsCommand command.now }
-    requires other { 24 < command_tag command.now }
+    requires other { 24 < place_of command.now }
     ensures bytes { OnOk result (out.new.items ≡ out.old.items ++ command_bytes command.now) }
     ensures form { OnOk result (IsFormedCommand command.now) }
 {
@@ -266,7 +267,7 @@ fn put_release_command(out: &mut Vec<u8>, command: &Command) -> Result<(), Alloc
             session,
             story,
         } => {
-            put_byte(out, 28)?;
+            put_byte(out, credit_tag(story, 28, 36))?;
             put_u32(out, *item)?;
             put_name(out, session)?;
             put_story(out, story)?;
@@ -301,5 +302,45 @@ fn put_release_command(out: &mut Vec<u8>, command: &Command) -> Result<(), Alloc
         }
         Command::Stop => put_byte(out, 32),
         _ => unreachable!(),
+    }
+}
+
+/// The tag of a setting of a subscriber, which gives a lag or not.
+fn given_tag(lag: &Option<u32>) -> u8
+    ensures { result ≡ by_given lag.now 13 38 }
+{
+    match lag {
+        None => 13,
+        Some(_) => 38,
+    }
+}
+
+/// Writes names, and a lag where it is not 0.
+fn put_late(out: &mut Vec<u8>, names: &Names, lag: u32) -> Result<(), AllocError>
+    requires { length names.now ≤ 64 }
+    ensures bytes { OnOk result (out.new.items ≡ out.old.items ++ with_lag (list name names.now) lag) }
+    ensures form { OnOk result (All IsName names.now) }
+{
+    put_names(out, names)?;
+    if lag == 0 {
+        return Ok(());
+    }
+    put_u32(out, lag)?;
+    Ok(())
+}
+
+/// Writes names, and a lag where one is given.
+fn put_given(out: &mut Vec<u8>, names: &Names, lag: &Option<u32>) -> Result<(), AllocError>
+    requires { length names.now ≤ 64 }
+    ensures bytes { OnOk result (out.new.items ≡ out.old.items ++ with_given (list name names.now) lag.now) }
+    ensures form { OnOk result (All IsName names.now) }
+{
+    put_names(out, names)?;
+    match lag {
+        None => Ok(()),
+        Some(lag) => {
+            put_u32(out, *lag)?;
+            Ok(())
+        }
     }
 }

@@ -6,7 +6,7 @@ ghost use Rattle.entry_codec.specs.Fits.{Fits, FitsAct};
 ghost use Rattle.entry_codec.specs.Formed.{IsFormedAct, IsEntry};
 
 use crate::field::{put_byte, put_u32, put_u64};
-use crate::story::put_incoming;
+use crate::story::{credit_tag, put_incoming};
 use crate::write_commands::put_command;
 use byte_formats::put_name;
 use news_types::{Act, Bytes, Entry, Memory};
@@ -32,7 +32,7 @@ pub fn encode(alloc: Global, entry: &Entry) -> Result<Bytes, Memory>
 }
 
 /// Writes an act: its tag, and its fields.
-fn put_act(out: &mut Vec<u8>, act: &Act) -> Result<(), AllocError>
+pub fn put_act(out: &mut Vec<u8>, act: &Act) -> Result<(), AllocError>
     requires { FitsAct act.now }
     ensures bytes { OnOk result (out.new.items ≡ out.old.items ++ act_bytes act.now) }
     ensures form { OnOk result (IsFormedAct act.now) }
@@ -53,7 +53,7 @@ fn put_act(out: &mut Vec<u8>, act: &Act) -> Result<(), AllocError>
         }
         Act::Halt => put_byte(out, 4),
         Act::Ingest { provider, incoming } => {
-            put_byte(out, 5)?;
+            put_byte(out, credit_tag(&incoming.story, 5, 7))?;
             put_name(out, provider)?;
             put_incoming(out, incoming)?;
             Ok(())

@@ -11,15 +11,15 @@ use Rattle.byte_formats.proofs.Laws.{not_both}
 use Rattle.byte_formats.proofs.Whole.{all_fault, all_within}
 use Rattle.feed_receiver.specs.declared.frame.FirstFrame.TheVariants.{Whole, Bad, Cut}
 use Rattle.feed_receiver.specs.Spelling.{frame_bytes, IsFrame}
-use Rattle.feed_receiver.specs.Formats.{frame, frame_at}
+use Rattle.feed_receiver.specs.Formats.{frame, read_frame_at}
 use Rattle.feed_receiver.specs.Reads.{IsFirst}
 use Rattle.feed_receiver.proofs.Written.{frame_lawful}
 
 module _ (bytes : Bytes) (ib : IsBytes bytes) where
-  pub left_within : (f : Frame) (rest : List ℕ) → frame_at bytes ≡ Ok (f, rest) → length rest ≤ length bytes
+  pub left_within : (f : Frame) (rest : List ℕ) → read_frame_at bytes ≡ Ok (f, rest) → length rest ≤ length bytes
   left_within f rest e = let t = frame_lawful.takes bytes f rest ib e in omega (arith, ap length t.1, length-append (frame_bytes f) rest)
 
-  pub first_whole : (f : Frame) (rest : List ℕ) → frame_at bytes ≡ Ok (f, rest) → IsFirst bytes (Whole (length bytes - length rest))
+  pub first_whole : (f : Frame) (rest : List ℕ) → read_frame_at bytes ≡ Ok (f, rest) → IsFirst bytes (Whole (length bytes - length rest))
   first_whole f rest e =
       let t = frame_lawful.takes bytes f rest ib e in
       let long : length (frame_bytes f) ≡ length bytes - length rest = omega (arith, ap length t.1, length-append (frame_bytes f) rest) in
@@ -27,24 +27,24 @@ module _ (bytes : Bytes) (ib : IsBytes bytes) where
       ap (λ (n : ℕ). take n bytes) (sym long) ∙ ap (λ (z : List ℕ). take (length (frame_bytes f)) z) t.1 ∙ take-append_seam (frame_bytes f) rest in
       (f, t.0, front, omega arith)
 
-  whole_fault : (left : ℕ) → frame_at bytes ≡ Err left → all_of frame bytes ≡ Err left
+  whole_fault : (left : ℕ) → read_frame_at bytes ≡ Err left → all_of frame bytes ≡ Err left
   unfolding all_of
   whole_fault left e = rw e refl
 
-  pub fault_within : (left : ℕ) → frame_at bytes ≡ Err left → left ≤ length bytes
+  pub fault_within : (left : ℕ) → read_frame_at bytes ≡ Err left → left ≤ length bytes
   fault_within left e = all_within frame IsFrame frame_lawful bytes left ib (whole_fault left e)
 
-  fault_at : (left : ℕ) → frame_at bytes ≡ Err left → IsFaultAt frame_bytes IsFrame bytes (length bytes - left)
+  fault_at : (left : ℕ) → read_frame_at bytes ≡ Err left → IsFaultAt frame_bytes IsFrame bytes (length bytes - left)
   fault_at left e = all_fault frame IsFrame frame_lawful bytes left ib (whole_fault left e)
 
-  pub first_bad : (left : ℕ) → 0 < left → frame_at bytes ≡ Err left → IsFirst bytes (Bad (length bytes - left))
+  pub first_bad : (left : ℕ) → 0 < left → read_frame_at bytes ≡ Err left → IsFirst bytes (Bad (length bytes - left))
   first_bad left some e =
       let at = fault_at left e in
       let within : length bytes - left < length bytes = omega (arith, fault_within left e) in
       (within, at.before, at.here within)
 
-  pub first_cut : frame_at bytes ≡ Err 0 → IsFirst bytes Cut
+  pub first_cut : read_frame_at bytes ≡ Err 0 → IsFirst bytes Cut
   first_cut e =
       let at = fault_at 0 e in
       let whole : take (length bytes - 0) bytes ≡ bytes = take_all (length bytes - 0) bytes (omega arith) in
-      (subst (Begins frame_bytes IsFrame) whole at.before, λ f rest form is. not_both (frame_at bytes) (f, rest) 0 (ap frame_at is ∙ frame_lawful.again f rest form) e)
+      (subst (Begins frame_bytes IsFrame) whole at.before, λ f rest form is. not_both (read_frame_at bytes) (f, rest) 0 (ap read_frame_at is ∙ frame_lawful.again f rest form) e)

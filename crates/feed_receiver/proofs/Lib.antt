@@ -3,3 +3,4 @@ pub mod ReceiptLines
 pub mod FirstFrames
 pub mod Numbered
 pub mod Receiving
+mod Reactions

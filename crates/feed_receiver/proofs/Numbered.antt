@@ -115,7 +115,7 @@ damaged_at name records i r lt is a bad =
     }
 
 -- a frame's record is within the limit
-pub number_length : (name : Bytes) (k : ℕ) (bytes : Bytes) → AreNumber name k bytes → length bytes ≤ 2097146
+pub number_length : (name : Bytes) (k : ℕ) (bytes : Bytes) → AreNumber name k bytes → length bytes ≤ 4194298
 number_length name k bytes n = omega (arith, ap length n.is, frame_length n.frame n.numbered.form)
 
 pub few_records : (name : Bytes) (records : List Record) → AreFrames name records → length records ≤ 4294967295

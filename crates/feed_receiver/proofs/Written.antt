@@ -17,7 +17,7 @@ use Rattle.byte_formats.proofs.Words.{word_lawful, literal_lawful}
 use Rattle.byte_formats.proofs.Numerals.{numeral_lawful}
 use Rattle.feed_receiver.specs.declared.frame.Heading.{Heading}
 use Rattle.feed_receiver.specs.Spelling.{frame_bytes, IsFrame, IsReceipt}
-use Rattle.feed_receiver.specs.Formats.{heading_fields, heading_from, fields_of, heading_at, heading, heading_of, frame_from, payload_by, frame_at, frame, receipt_fields, receipt_at, receipt}
+use Rattle.feed_receiver.specs.Formats.{heading_fields, heading_from, fields_of, heading_at, heading, heading_of, frame_from, payload_by, read_frame_at, frame, receipt_fields, receipt_at, receipt}
 
 -- ---- the first line of a frame
 
@@ -31,20 +31,20 @@ abbrev IsNumber : ℕ → Type 0
 IsNumber k = (1 ≤ k) × (k ≤ 4294967295)
 
 abbrev IsSize : ℕ → Type 0
-IsSize n = (0 ≤ n) × (n ≤ 2097088)
+IsSize n = (0 ≤ n) × (n ≤ 4194240)
 
 abbrev AreFields : ⊤ × (Bytes × (ℕ × ℕ)) → Type 0
 AreFields x = Anything x.0 × (IsName x.1.0 × (IsNumber x.1.1.0 × IsSize x.1.1.1))
 
 fields_lawful : Lawful heading_fields AreFields
 fields_lawful =
-    pair_lawful (literal (codes "FRAME ")) Anything (pair word (pair (numeral 32 1 4294967295) (numeral 10 0 2097088))) (λ x. IsName x.0 × (IsNumber x.1.0 × IsSize x.1.1))
+    pair_lawful (literal (codes "FRAME ")) Anything (pair word (pair (numeral 32 1 4294967295) (numeral 10 0 4194240))) (λ x. IsName x.0 × (IsNumber x.1.0 × IsSize x.1.1))
     (literal_lawful (codes "FRAME ") frame_word)
-    (pair_lawful word IsName (pair (numeral 32 1 4294967295) (numeral 10 0 2097088)) (λ x. IsNumber x.0 × IsSize x.1)
+    (pair_lawful word IsName (pair (numeral 32 1 4294967295) (numeral 10 0 4194240)) (λ x. IsNumber x.0 × IsSize x.1)
     word_lawful
-    (pair_lawful (numeral 32 1 4294967295) IsNumber (numeral 10 0 2097088) IsSize
+    (pair_lawful (numeral 32 1 4294967295) IsNumber (numeral 10 0 4194240) IsSize
     (numeral_lawful 32 1 4294967295 (omega arith) (omega arith) (omega arith) (omega arith))
-    (numeral_lawful 10 0 2097088 (omega arith) (omega arith) (omega arith) (omega arith))))
+    (numeral_lawful 10 0 4194240 (omega arith) (omega arith) (omega arith) (omega arith))))
 
 abbrev IsHeading : Heading → Type 0
 IsHeading h = IsName h.to × (IsNumber h.k × IsSize h.length)
@@ -76,7 +76,7 @@ abbrev ByParts : Frame → Type 0
 ByParts f = IsHeading (heading_of f) × IsBehind (heading_of f) f
 
 pub frame_lawful : Lawful frame IsFrame
-unfolding frame_at
+unfolding read_frame_at
 frame_lawful =
     via (chain heading payload_by heading_of) ByParts frame IsFrame (λ f. f)
     (chain_lawful heading IsHeading payload_by IsBehind heading_of heading_lawful (λ h p. payload_lawful h) (λ h f p q. q.0))
@@ -88,7 +88,7 @@ six_more : (w t k n p : List ℕ) → length (w ++ (t ++ 32 ∷ (k ++ 32 ∷ (n 
 six_more w t k n p = simp length-append (omega arith)
 
 -- a frame is within the limit of records
-pub frame_length : (f : Frame) → IsFrame f → length (frame_bytes f) ≤ 2097146
+pub frame_length : (f : Frame) → IsFrame f → length (frame_bytes f) ≤ 4194298
 frame_length f r =
     let all = six_more (codes "FRAME ") f.to (decimal f.k) (decimal (length f.payload)) f.payload in
     let number = length-decimal-le 10 f.k (omega arith) (omega (arith, r.last)) (omega (arith, r.last)) in

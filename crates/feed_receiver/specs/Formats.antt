@@ -13,7 +13,7 @@ use Rattle.feed_receiver.specs.Spelling.{frame_bytes, receipt_bytes}
 
 -- the fields of a frame's first line
 abbrev pub heading_fields : Format (⊤ × (Bytes × (ℕ × ℕ)))
-heading_fields = pair (literal (codes "FRAME ")) (pair word (pair (numeral 32 1 4294967295) (numeral 10 0 2097088)))
+heading_fields = pair (literal (codes "FRAME ")) (pair word (pair (numeral 32 1 4294967295) (numeral 10 0 4194240)))
 
 abbrev pub heading_from : ⊤ × (Bytes × (ℕ × ℕ)) → Heading
 heading_from x = record { to = x.1.0; k = x.1.1.0; length = x.1.1.1 }
@@ -37,11 +37,11 @@ frame_from h payload = record { to = h.to; k = h.k; payload = payload }
 abbrev pub payload_by : Heading → Format Frame
 payload_by h = made (free h.length) (frame_from h) (λ f. f.payload)
 
-unfoldable pub frame_at : List ℕ → Result (Frame × List ℕ) ℕ
-frame_at = (chain heading payload_by heading_of).read
+unfoldable pub read_frame_at : List ℕ → Result (Frame × List ℕ) ℕ
+read_frame_at = (chain heading payload_by heading_of).read
 
 abbrev pub frame : Format Frame
-frame = record { spell = frame_bytes; read = frame_at }
+frame = record { spell = frame_bytes; read = read_frame_at }
 
 -- ---- receipts
 

@@ -11,7 +11,7 @@ use Rattle.feed_receiver.specs.Formats.{frame, receipt_of}
 pub record FramesAreReadAgain : Type 0 where
   pub again : Lawful frame IsFrame
   pub one : (f g : Frame) → IsFrame f → IsFrame g → frame_bytes f ≡ frame_bytes g → f ≡ g
-  pub short : (f : Frame) → IsFrame f → length (frame_bytes f) ≤ 2097146
+  pub short : (f : Frame) → IsFrame f → length (frame_bytes f) ≤ 4194298
 
 -- a receipt's line is read as the name and the number that it was written for, and every other line as none
 pub record ReceiptsAreReadAgain : Type 0 where

@@ -1,5 +1,5 @@
 -- What a receiver answers to some bytes, and what becomes of its keeper.
-use Rattle.std.specs.Prelude.{◌≡◌, ◌⊎◌, ℕ, ◌+◌, ◌≤◌, ◌<◌, List, [], ◌∷◌, length}
+use Rattle.std.specs.Prelude.{◌≡◌, ℕ, ◌+◌, ◌≤◌, ◌<◌, List, [], ◌++◌, length}
 use Rattle.news_types.specs.Names.{Bytes}
 use Rattle.news_types.specs.Frames.{Frame}
 use Rattle.news_io.specs.Faults.{Rose}
@@ -7,33 +7,54 @@ use Rattle.byte_formats.specs.Faults.{IsFaultAt}
 use Rattle.feed_receiver.specs.declared.receiver.Taken.{Taken}
 use Rattle.feed_receiver.specs.declared.receiver.Taken.TheVariants.{BadFrame, NotMine, Known, Ahead, Accepted, Fault, Full, Memory}
 use Rattle.feed_receiver.specs.Spelling.{frame_bytes, IsFrame}
-use Rattle.feed_receiver.specs.Feed.{AreNumber}
+use Rattle.news_types.specs.Receiver as step
+use Rattle.news_types.specs.Calls.{Fate, IsKept, IsFull, IsFailed, IsStarved}
+use Rattle.news_io.specs.Keeper.{KeeperMeaning}
 
 -- the bytes are this frame
 pub record AreFrame (f : Frame) (bytes : Bytes) : Type 0 where
   pub form : IsFrame f
   pub is : bytes ≡ frame_bytes f
 
+-- what the receiver's step makes of the frame that is so answered: an accepted one may be kept, fail, be refused or find no memory
+abbrev pub reaction_of : Taken → step.Taken
+reaction_of NotMine = step.NotMine
+reaction_of (Known held) = step.Known
+reaction_of (Ahead held) = step.Ahead
+reaction_of answer = step.Accepted
+
+-- what became of the frame; one that is not the next is not tried
+abbrev pub fate_of : Taken → Fate
+fate_of (Accepted k) = IsKept
+fate_of Fault = IsFailed
+fate_of (Full size count) = IsFull
+fate_of answer = IsStarved
+
+-- the number that an answer carries, where the receiver holds so many
+abbrev pub Carries : Taken → ℕ → Type 0
+Carries (Known held) count = held ≡ count
+Carries (Ahead held) count = held ≡ count
+Carries (Accepted k) count = k ≡ count + 1
+Carries answer count = Unit {0}
+
+-- the answer is the step's on the frame, and these come to what is held
+pub record Reacts (name : Bytes) (held : List Frame) (f : Frame) (answer : Taken) (more : List Frame) : Type 0 where
+  pub reaction : step.reaction name (length held) f ≡ reaction_of answer
+  pub carries : Carries answer (length held)
+  pub grown : (doubt : List Frame) → (step.taken name (record { held = held; doubt = doubt }) f (fate_of answer)).held ≡ held ++ more
+
+-- what the bytes are to the receiver of this name that holds these: no frame; or a frame, on which the answer is the step's
+abbrev pub IsStep : Bytes → List Frame → Bytes → Taken → List Frame → Type 0
+IsStep name held bytes (BadFrame at) more = IsFaultAt frame_bytes IsFrame bytes at × (more ≡ [])
+IsStep name held bytes answer more = (f : Frame) × AreFrame f bytes × Reacts name held f answer more
+
 -- the answer to bytes that are not the next frame, by a receiver of this name that holds so many
 abbrev pub IsRefused : Bytes → ℕ → Bytes → Taken → Type 0
 IsRefused name count bytes (BadFrame at) = IsFaultAt frame_bytes IsFrame bytes at
-IsRefused name count bytes NotMine = (f : Frame) × AreFrame f bytes × (f.to ≡ name → ⊥)
-IsRefused name count bytes (Known held) = (f : Frame) × AreFrame f bytes × (f.to ≡ name) × (f.k ≤ count) × (held ≡ count)
-IsRefused name count bytes (Ahead held) = (f : Frame) × AreFrame f bytes × (f.to ≡ name) × (count + 1 < f.k) × (held ≡ count)
-IsRefused name count bytes taken = ⊥
-
--- the answer: the next frame is accepted, or the keeper can't keep it, or memory is wanted for it
-abbrev pub IsTaken : Bytes → ℕ → Bytes → Taken → Type 0
-IsTaken name count bytes (Accepted k) = AreNumber name k bytes × (k ≡ count + 1)
-IsTaken name count bytes Fault = AreNumber name (count + 1) bytes
-IsTaken name count bytes (Full size held) = AreNumber name (count + 1) bytes
-IsTaken name count bytes Memory = AreNumber name (count + 1) bytes
-IsTaken name count bytes taken = IsRefused name count bytes taken
-
--- the frames that come to the list: the accepted one, or none
-abbrev pub AreAdded : Bytes → Taken → List Frame → Type 0
-AreAdded bytes (Accepted k) more = (f : Frame) × (bytes ≡ frame_bytes f) × (more ≡ f ∷ [])
-AreAdded bytes taken more = more ≡ []
+IsRefused name count bytes NotMine = (f : Frame) × AreFrame f bytes × (step.reaction name count f ≡ step.NotMine)
+IsRefused name count bytes (Known held) = (f : Frame) × AreFrame f bytes × (step.reaction name count f ≡ step.Known) × (held ≡ count)
+IsRefused name count bytes (Ahead held) = (f : Frame) × AreFrame f bytes × (step.reaction name count f ≡ step.Ahead) × (held ≡ count)
+IsRefused name count bytes answer = ⊥
 
 -- the receiver and its keeper are as before, unless the keeper was asked
 abbrev pub SameUnlessAsked : {R : Type 0} → R → R → Taken → Type 0
@@ -47,8 +68,8 @@ pub record Numbers : Type 0 where
   pub faults : ℕ
   pub used : ℕ
 
-abbrev pub numbers : {K : Type 0} → (K → ℕ) → (K → ℕ) → K → Numbers
-numbers faults used keeper = record { faults = faults keeper; used = used keeper }
+abbrev pub numbers : {K : Type 0} → KeeperMeaning K → K → Numbers
+numbers keeper k = record { faults = keeper.faults k; used = keeper.used k }
 
 -- An accepted frame takes its length and five bytes more, a fault comes only where the count rose,
 -- and Full exactly where the bytes in use would pass the limit, with their number and the frame's length.
@@ -57,9 +78,3 @@ IsCounted old new bytes (Accepted k) = (new.faults ≡ old.faults) × (new.used 
 IsCounted old new bytes Fault = Rose old.faults new.faults × (old.faults ≤ new.faults) × (new.used ≡ old.used) × (old.used + length bytes + 5 ≤ 1073741824)
 IsCounted old new bytes (Full size count) = (new.faults ≡ old.faults) × (new.used ≡ old.used) × (1073741824 < old.used + length bytes + 5) × (size ≡ old.used) × (count ≡ length bytes)
 IsCounted old new bytes taken = (new.faults ≡ old.faults) × (new.used ≡ old.used)
-
--- an accepted frame ends all doubt, a fault adds the frame to it, and nothing else adds to it
-abbrev pub DoubtsAfter : (Bytes → Type 0) → (Bytes → Type 0) → Bytes → Taken → Type 0
-DoubtsAfter old new bytes (Accepted k) = (x : Bytes) → new x → ⊥
-DoubtsAfter old new bytes Fault = (x : Bytes) → new x → old x ⊎ (x ≡ bytes)
-DoubtsAfter old new bytes taken = (x : Bytes) → new x → old x

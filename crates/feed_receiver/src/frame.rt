@@ -2,19 +2,19 @@
 //!
 //! A frame is the word `FRAME`, the subscriber, the frame's number in its feed and the payload's
 //! length, each behind a space, then a line feed and the payload. The numbers are decimal without
-//! leading zeros; the frame's number is 1 to 4294967295, the length 0 to 2097088.
+//! leading zeros; the frame's number is 1 to 4294967295, the length 0 to 4194240.
 
 ghost use Rattle.std.specs.Prelude.{◌≡◌, ℕ, Ok, Err, IfOk, IfErr};
 ghost use Rattle.byte_formats.specs.Gives.{all_of};
 ghost use Rattle.feed_receiver.specs.Fields.{Reads};
-ghost use Rattle.feed_receiver.specs.Formats.{heading_at, frame_at, frame};
+ghost use Rattle.feed_receiver.specs.Formats.{heading_at, read_frame_at, frame};
 ghost use Rattle.feed_receiver.specs.Reads.{IsFirst};
 
 use crate::fields::Fields;
 use news_types::Name;
 
 /// The most bytes of a frame's payload.
-const LONGEST_PAYLOAD: u32 = 2097088;
+const LONGEST_PAYLOAD: u32 = 4194240;
 
 /// The first line of a frame.
 #[derive(Clone, Copy)]
@@ -82,10 +82,10 @@ pub fn whole_frame(bytes: &[u8]) -> Result<Frame<'_>, usize>
 }
 
 /// The frame at the front of what is still to be read.
-#[tactic(auto, unfolding(crate::specs::Formats::frame_at))]
+#[tactic(auto, unfolding(crate::specs::Formats::read_frame_at))]
 fn next_frame<'a>(fields: &mut Fields<'a>) -> Result<Frame<'a>, usize>
-    ensures frame { IfOk result (λ f. frame_at fields.old ≡ Ok (record { to = f.to; k = f.k; payload = f.payload.now }, fields.new)) }
-    ensures fault { IfErr result (λ left. frame_at fields.old ≡ Err left) }
+    ensures frame { IfOk result (λ f. read_frame_at fields.old ≡ Ok (record { to = f.to; k = f.k; payload = f.payload.now }, fields.new)) }
+    ensures fault { IfErr result (λ left. read_frame_at fields.old ≡ Err left) }
 {
     let heading = next_heading(fields)?;
     let payload = fields.bytes(heading.length as usize)?;

@@ -4,7 +4,7 @@ ghost use Rattle.feed_receiver.specs.Laws.{FramesAreReadAgain, ReceiptsAreReadAg
 
 /// A frame is read again whatever bytes follow it, so no two frames have the same bytes, and none
 /// begins another; a fault is at the first byte with which no frame goes on; and a frame has at most
-/// 2097146 bytes.
+/// 4194298 bytes.
 pub fn frames_law()
     ensures { FramesAreReadAgain }
 {}

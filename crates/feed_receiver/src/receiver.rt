@@ -2,8 +2,7 @@
 
 ghost use Rattle.std.specs.Prelude.{◌≡◌, ◌+◌, ◌≤◌, ◌<◌, ℕ, List, length, IfOk, IfErr, MatchOption, MatchBool};
 ghost use Rattle.news_types.specs.Frames.{Frame};
-ghost use Rattle.news_io.specs.Keeper.{framed, BeforeOrAfter};
-ghost use Rattle.news_io.specs.Moments.{Elapses};
+ghost use Rattle.news_io.specs.Keeper.{framed, BeforeOrAfter, KeeperGains};
 ghost use Rattle.feed_receiver.specs.Spelling.{receipt_bytes};
 ghost use Rattle.feed_receiver.specs.Feed.{AreNumber, AreFrames, IsDamaged};
 
@@ -97,7 +96,7 @@ fn damage(name: &Name, records: &[Record]) -> Option<u64>
 
 /// The record of a frame: four bytes of length, the frame, and a closed gate.
 fn record_of(alloc: Global, frame: &[u8]) -> Result<Vec<u8>, Memory>
-    requires { length frame.now ≤ 2097152 }
+    requires { length frame.now ≤ 4194304 }
     ensures { IfOk result (λ bytes. bytes.items ≡ framed frame.now) }
 {
     let mut bytes = Vec::with_capacity(alloc, frame.len() + 5)?;
@@ -108,7 +107,8 @@ fn record_of(alloc: Global, frame: &[u8]) -> Result<Vec<u8>, Memory>
 }
 
 impl<K: Keeper> Receiver<K> {
-    ghost use Rattle.feed_receiver.specs.Takes.{IsRefused, IsTaken, AreAdded, SameUnlessAsked, IsCounted, numbers, DoubtsAfter};
+    ghost use Rattle.news_types.specs.Doubt.{DoubtsAfter};
+    ghost use Rattle.feed_receiver.specs.Takes.{IsRefused, IsStep, fate_of, SameUnlessAsked, IsCounted, numbers};
     ghost use Rattle.feed_receiver.specs.Holds.{Received, onto, Holds, OpensTo, GivesBack};
 
     /// The receiver of this name that holds the frames in these records.
@@ -121,7 +121,7 @@ impl<K: Keeper> Receiver<K> {
         name: Name,
         records: &[Record],
     ) -> Result<Receiver<K>, (K, ReceiverFault)>
-        ensures opened { IfOk result (λ r. OpensTo K.tells K.list K.doubts keeper name records.now r) }
+        ensures opened { IfOk result (λ r. OpensTo K.keeper keeper name records.now r) }
         ensures damaged { IfErr result (λ back. GivesBack keeper name records.now back) }
     {
         if let Some(at) = damage(&name, records) {
@@ -140,17 +140,14 @@ impl<K: Keeper> Receiver<K> {
     /// Only an accepted frame changes the list, which it then ends. Bytes that are not the next frame
     /// are answered without memory, and the keeper is not asked.
     pub fn take(&mut self, frame: &[u8]) -> Taken
-        ensures list { (more : List Frame) × AreAdded frame.now result more
-            × ((b : Received) → Holds K.tells K.list K.doubts self.old b → Holds K.tells K.list K.doubts self.new (onto more b)) }
-        ensures answer { (b : Received) → Holds K.tells K.list K.doubts self.old b → IsTaken b.name (length b.frames) frame.now result }
+        ensures step { (more : List Frame) × ((b : Received) → Holds K.keeper self.old b → Holds K.keeper self.new (onto more b) × IsStep b.name b.frames frame.now result more) }
         ensures unasked { SameUnlessAsked self.old self.new result }
-        ensures counts { IsCounted (numbers K.faults K.used self.old.keeper) (numbers K.faults K.used self.new.keeper) frame.now result }
-        ensures told { K.tells self.old.keeper → K.tells self.new.keeper }
-        ensures doubts { K.tells self.old.keeper → DoubtsAfter (K.doubts self.old.keeper) (K.doubts self.new.keeper) frame.now result }
+        ensures counts { IsCounted (numbers K.keeper self.old.keeper) (numbers K.keeper self.new.keeper) frame.now result }
+        ensures told { K.keeper.tells self.old.keeper → K.keeper.tells self.new.keeper }
+        ensures doubts { K.keeper.tells self.old.keeper → DoubtsAfter (K.keeper.doubts self.old.keeper) (K.keeper.doubts self.new.keeper) frame.now (fate_of result) }
         // Each moment of the call leaves what the state before it allows, or the state after it.
-        ensures crash { K.tells self.old.keeper → Elapses (K.moment self.old.keeper) (K.moment self.new.keeper)
-            (K.left_since self.old.keeper) (K.left_since self.new.keeper)
-            (BeforeOrAfter (K.list self.old.keeper) (K.doubts self.old.keeper) (K.list self.new.keeper) (K.doubts self.new.keeper)) }
+        ensures crash { K.keeper.tells self.old.keeper → KeeperGains K.keeper self.old.keeper self.new.keeper
+            (BeforeOrAfter (K.keeper.list self.old.keeper) (K.keeper.doubts self.old.keeper) (K.keeper.list self.new.keeper) (K.keeper.doubts self.new.keeper)) }
     {
         let k = match self.judge(frame) {
             Ok(k) => k,
@@ -196,7 +193,7 @@ impl<K: Keeper> Receiver<K> {
 
     /// How many frames it holds.
     pub fn count(&self) -> u32
-        ensures { (b : Received) → Holds K.tells K.list K.doubts self.now b → result ≡ length b.frames }
+        ensures { (b : Received) → Holds K.keeper self.now b → result ≡ length b.frames }
     {
         self.count
     }
@@ -204,7 +201,7 @@ impl<K: Keeper> Receiver<K> {
     /// The line that it answers to a frame: its own name, and how many frames it holds. It takes no
     /// memory.
     pub fn receipt(&self) -> Line
-        ensures { (b : Received) → Holds K.tells K.list K.doubts self.now b → result ≡ receipt_bytes b.name (length b.frames) }
+        ensures { (b : Received) → Holds K.keeper self.now b → result ≡ receipt_bytes b.name (length b.frames) }
     {
         receipt_line(&self.name, self.count)
     }

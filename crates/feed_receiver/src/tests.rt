@@ -121,8 +121,8 @@ fn refuses_bad_frames(rt: HostRuntime) -> Result<(), Fail> {
         (b"FRAME alpha 1 2 \nhi", 15),
         (b"FRAME alpha 1 2\r\nhi", 15),
         (b"FRAME alpha 1 9999999", 20),
-        (b"FRAME alpha 1 2097089\n", 20),
-        (b"FRAME alpha 1 20970880\n", 21),
+        (b"FRAME alpha 1 4194241\n", 20),
+        (b"FRAME alpha 1 41942400\n", 21),
         (b"FRAME alpha 1 2\nh", 17),
         (b"FRAME alpha 1 2\nhiX", 18),
         (b"FRAME alpha 1 0\nX", 16),
@@ -234,7 +234,11 @@ fn laid_out(alloc: Global, payloads: &[&[u8]]) -> Result<Vec<Record>, Fail> {
         let Ok(bytes) = Bytes::copy_of(alloc, payload) else {
             return Err(Fail::new("no memory"));
         };
-        kept.push(Record { at, bytes })?;
+        kept.push(Record {
+            at,
+            side: false,
+            bytes,
+        })?;
         at = at.wrapping_add(payload.len() as u64).wrapping_add(5);
     }
     Ok(kept)

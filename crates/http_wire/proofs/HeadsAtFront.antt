@@ -1,6 +1,6 @@
 -- A head at the front of the bytes that have come begins the input.
-use Rattle.std.proofs.Common.{◌≡◌, ◌≤◌, ◌<◌, ◌+◌, ◌++◌, ℕ, List, length, take, drop, sym, ap, ◌∙◌, subst, arith, append_assoc, length-append}
-use Rattle.std.proofs.lemmas.List.{take-append-drop, drop-append-le, drop-drop, length-take, length-take-le, length-drop, drop_at}
+use Rattle.std.proofs.Common.{◌≡◌, ◌≤◌, ◌<◌, ◌+◌, ◌++◌, ℕ, List, [], length, take, drop, sym, ap, ◌∙◌, subst, arith, append_assoc, length-append}
+use Rattle.std.proofs.lemmas.List.{append-nil, take-append-drop, drop-append-le, drop-drop, length-take, length-take-le, length-drop, drop_at}
 use Rattle.httparse.specs.Grammar.{RequestHead, print_request}
 use Rattle.httparse.specs.Spans.{IsRequestAt}
 use Rattle.httparse.specs.declared.spans.HeaderSpan.{HeaderSpan}
@@ -28,6 +28,9 @@ begins bytes ahead spans r h at =
       reads = (at.reads.0, whole ∙ ap (λ (l : List ℕ). p ++ l) (sym behind));
       short = subst (λ (n : ℕ). n ≤ most_head) at.len (head_short bytes spans r h at).0;
     }
+
+pub begins_alone : (bytes : List ℕ) (spans : List HeaderSpan) (r : RequestSpans) (h : RequestHead) → IsRequestAt (front bytes) spans r h → BeginsWith bytes h (drop r.len bytes)
+begins_alone bytes spans r h at = subst (λ (l : List ℕ). BeginsWith l h (drop r.len l)) (append-nil bytes) (begins bytes [] spans r h at)
 
 -- the body, and what is left
 pub parts : (input new later : List ℕ) (len n : ℕ) → new ++ later ≡ input → len + n ≤ length new → drop len input ≡ take n (drop len new) ++ (drop (len + n) new ++ later)

@@ -62,7 +62,7 @@ a_byte : is_token_byte 97 ≡ true
 unfolding is_token_byte
 a_byte = refl
 
-a_token : IsToken (97 ∷ [])
+pub a_token : IsToken (97 ∷ [])
 a_token = (omega arith, All-cons (λ b. IsTrue (is_token_byte b)) 97 [] a_byte (All-nil (λ b. IsTrue (is_token_byte b))))
 
 -- no bytes at all can become a head

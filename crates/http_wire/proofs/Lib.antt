@@ -3,6 +3,8 @@ pub mod HeadsAtFront
 pub mod Late
 pub mod Long
 pub mod NameText
+pub mod Open
+pub mod Stops
 pub mod Targets
 pub mod Tokens
 pub mod Texts

@@ -2,6 +2,7 @@ pub mod Limits
 pub mod Fields
 pub mod Heads
 pub mod Requests
+pub mod Unfinished
 pub mod Wires
 pub mod Writing
 pub mod Laws

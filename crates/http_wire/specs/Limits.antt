@@ -15,7 +15,7 @@ most_fields = 64
 
 -- the bytes of a body
 abbrev pub most_body : ℕ
-most_body = 2097152
+most_body = 4194304
 
 -- the bytes that are asked of a source at once
 abbrev pub most_read : ℕ
@@ -23,7 +23,7 @@ most_read = 4096
 
 -- the bytes that are held of a connection: a head, a body, and what one read brings
 abbrev pub most_held : ℕ
-most_held = 2117632
+most_held = 4214784
 
 -- as far as a head is looked for
 abbrev pub front : List ℕ → List ℕ

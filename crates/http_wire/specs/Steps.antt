@@ -1,75 +1,47 @@
 -- What the steps of a reader did.
-use Rattle.std.specs.Prelude.{◌≡◌, ℕ, ◌+◌, ◌<◌, ◌≤◌, ◌++◌, List, [], length, ⊤}
-use Rattle.news_io.specs.Faults.{Rose}
-use Rattle.httparse.specs.Grammar.{RequestHead}
+use Rattle.std.specs.Prelude.{◌≡◌, ℕ, ◌+◌, ◌<◌, ◌≤◌, ◌++◌, Bool, true, false, List, length, ⊤, Option, Some, None, Result, Ok, Err}
+use Rattle.httparse.specs.Grammar.{RequestHead, HasNoRequest, NeverHasRequest, MayBecomeRequest, EndsInTarget}
 use Rattle.httparse.specs.Spans.{IsRequestWithin, IsRequestAt}
 use Rattle.httparse.specs.declared.spans.HeaderSpan.{HeaderSpan}
 use Rattle.httparse.specs.declared.spans.RequestSpans.{RequestSpans}
-use Rattle.http_wire.specs.Limits.{front, most_read, most_body}
+use Rattle.http_wire.specs.Limits.{front, most_head, most_read, most_body}
 use Rattle.http_wire.specs.Heads.{Says, coded, bad_length, too_much, of_length, lines, says, asker, closes_after}
-use Rattle.http_wire.specs.Requests.{Ends, at_end, head_fault, too_large}
-use Rattle.http_wire.specs.declared.fill.Filled.{Filled}
-use Rattle.http_wire.specs.declared.fill.Filled.TheVariants as fill
-use Rattle.http_wire.specs.declared.seek.Sought.{Sought}
-use Rattle.http_wire.specs.declared.seek.Sought.TheVariants as sought
-use Rattle.http_wire.specs.declared.ruling.Ruling.{Ruling}
-use Rattle.http_wire.specs.declared.ruling.Ruling.TheVariants as rule
+use Rattle.http_wire.specs.Unfinished.{BeginsHead}
+use Rattle.http_wire.specs.Wires.{CountsWire, stop_wire}
+use Rattle.http_wire.specs.declared.stop.Stop.{Stop}
+use Rattle.http_wire.specs.declared.stop.Stop.TheVariants.{HeadFault, TooLarge, Chunked, ReadFault, Memory}
 use Rattle.http_wire.specs.declared.ruling.Begun.{Begun}
-use Rattle.http_wire.specs.declared.ruling.Examined.{Examined}
-use Rattle.http_wire.specs.declared.ruling.Examined.TheVariants as examined
+
+-- a count of faults, where nothing stopped or this did
+abbrev pub CountsStop : {A : Type 0} → ℕ → ℕ → Result A Stop → Type 0
+CountsStop before now (Ok x) = now ≡ before
+CountsStop before now (Err why) = CountsWire before now (stop_wire why)
 
 -- ---- more bytes
 
--- some bytes of the input came behind the others, or none did
-abbrev pub IsFilled : List ℕ → List ℕ → List ℕ → List ℕ → Filled → Type 0
-IsFilled old ahead new later fill.More = new ++ later ≡ old ++ ahead
-IsFilled old ahead new later fill.End = (new ≡ old) × (ahead ≡ []) × (later ≡ [])
-IsFilled old ahead new later fill.Fault = (new ≡ old) × (later ≡ ahead)
-IsFilled old ahead new later fill.Memory = (new ≡ old) × (later ≡ ahead)
+-- more bytes stand behind the others, or these alone
+abbrev pub Adds : List ℕ → List ℕ → Result Bool Stop → Type 0
+Adds old new (Ok true) = (piece : List ℕ) × (new ≡ old ++ piece)
+Adds old new (Ok false) = new ≡ old
+Adds old new (Err why) = new ≡ old
 
-abbrev pub Grows : ℕ → ℕ → Filled → Type 0
-Grows before now fill.More = (before < now) × (now ≤ before + most_read)
-Grows before now fill.End = now ≡ before
-Grows before now fill.Fault = now ≡ before
-Grows before now fill.Memory = now ≡ before
+abbrev pub Grows : ℕ → ℕ → Result Bool Stop → Type 0
+Grows before now (Ok true) = (before < now) × (now ≤ before + most_read)
+Grows before now (Ok false) = now ≡ before
+Grows before now (Err why) = now ≡ before
 
-abbrev pub CountsFilled : ℕ → ℕ → Filled → Type 0
-CountsFilled before now fill.Fault = (before ≤ now) × Rose before now
-CountsFilled before now fill.More = now ≡ before
-CountsFilled before now fill.End = now ≡ before
-CountsFilled before now fill.Memory = now ≡ before
+-- why a read brings nothing
+abbrev pub IsUnread : Stop → Type 0
+IsUnread ReadFault = ⊤
+IsUnread Memory = ⊤
+IsUnread why = ⊥
 
--- so many bytes stand there, or the input ended before; none of it is lost
-abbrev pub IsGathered : ℕ → List ℕ → List ℕ → List ℕ → List ℕ → Filled → Type 0
-IsGathered until old ahead new later fill.More = new ++ later ≡ old ++ ahead
-IsGathered until old ahead new later fill.End = (new ≡ old ++ ahead) × (later ≡ []) × (length new < until)
-IsGathered until old ahead new later fill.Fault = new ++ later ≡ old ++ ahead
-IsGathered until old ahead new later fill.Memory = new ++ later ≡ old ++ ahead
-
-abbrev pub Reaches : ℕ → ℕ → Filled → Type 0
-Reaches until now fill.More = until ≤ now
-Reaches until now fill.End = ⊤
-Reaches until now fill.Fault = ⊤
-Reaches until now fill.Memory = ⊤
+-- why a body does not come: the input ended, or a read brought nothing
+abbrev pub IsCutShort : Stop → Type 0
+IsCutShort HeadFault = ⊤
+IsCutShort why = IsUnread why
 
 -- ---- a head
-
--- whether a head begins the input, of which nothing is taken
-abbrev pub IsSought : List ℕ → List ℕ → Sought → Type 0
-IsSought input left (sought.Head r) = left ≡ input
-IsSought input left sought.End = Ends input at_end × (left ≡ input)
-IsSought input left sought.HeadFault = Ends input head_fault × (left ≡ input)
-IsSought input left sought.TooLarge = Ends input too_large × (left ≡ input)
-IsSought input left sought.ReadFault = left ≡ input
-IsSought input left sought.Memory = left ≡ input
-
-abbrev pub CountsSought : ℕ → ℕ → Sought → Type 0
-CountsSought before now sought.ReadFault = (before ≤ now) × Rose before now
-CountsSought before now (sought.Head r) = now ≡ before
-CountsSought before now sought.End = now ≡ before
-CountsSought before now sought.HeadFault = now ≡ before
-CountsSought before now sought.TooLarge = now ≡ before
-CountsSought before now sought.Memory = now ≡ before
 
 -- the head that was found stands there
 pub record HasHead (bytes : List ℕ) (spans : List HeaderSpan) (r : RequestSpans) : Type 0 where
@@ -77,27 +49,31 @@ pub record HasHead (bytes : List ℕ) (spans : List HeaderSpan) (r : RequestSpan
   pub head : RequestHead
   pub at : IsRequestAt (front bytes) spans r head
 
-abbrev pub IsHeadOf : List ℕ → List HeaderSpan → Sought → Type 0
-IsHeadOf bytes spans (sought.Head r) = HasHead bytes spans r
-IsHeadOf bytes spans sought.End = ⊤
-IsHeadOf bytes spans sought.HeadFault = ⊤
-IsHeadOf bytes spans sought.TooLarge = ⊤
-IsHeadOf bytes spans sought.ReadFault = ⊤
-IsHeadOf bytes spans sought.Memory = ⊤
+-- what stands there is refused, or is too long
+abbrev pub IsNoHead : List ℕ → Stop → Type 0
+IsNoHead bytes HeadFault = NeverHasRequest (front bytes) × ¬ (EndsInTarget (front bytes))
+IsNoHead bytes TooLarge = (most_head ≤ length bytes) × HasNoRequest (front bytes) × MayBecomeRequest (front bytes)
+IsNoHead bytes why = ⊥
+
+-- a head stands there, or has begun, or there is none
+abbrev pub IsHeadIn : List ℕ → List HeaderSpan → Result (Option RequestSpans) Stop → Type 0
+IsHeadIn bytes spans (Ok (Some r)) = HasHead bytes spans r
+IsHeadIn bytes spans (Ok None) = BeginsHead bytes × (length bytes < most_head)
+IsHeadIn bytes spans (Err why) = IsNoHead bytes why
 
 -- ---- what a head asks for
 
-abbrev pub said : Ruling → Says
-said rule.Chunked = coded
-said rule.NoLength = bad_length
-said rule.Over = too_much
-said (rule.Body n) = of_length n
+-- what the lines say stops the reader, or memory was wanted
+abbrev pub IsSaid : Says → Stop → Type 0
+IsSaid said Chunked = said ≡ coded
+IsSaid said HeadFault = said ≡ bad_length
+IsSaid said TooLarge = said ≡ too_much
+IsSaid said Memory = ⊤
+IsSaid said why = ⊥
 
-abbrev pub IsBounded : Ruling → Type 0
-IsBounded rule.Chunked = ⊤
-IsBounded rule.NoLength = ⊤
-IsBounded rule.Over = ⊤
-IsBounded (rule.Body n) = n ≤ most_body
+abbrev pub IsRuled : Says → Result ℕ Stop → Type 0
+IsRuled said (Ok n) = (said ≡ of_length n) × (n ≤ most_body)
+IsRuled said (Err why) = IsSaid said why
 
 -- what the head says but for the body
 pub record IsBegun (h : RequestHead) (b : Begun) : Type 0 where
@@ -106,10 +82,7 @@ pub record IsBegun (h : RequestHead) (b : Begun) : Type 0 where
   pub user : b.user ≡ asker (lines h)
   pub close : b.close ≡ closes_after h.minor (lines h)
 
--- what the head asks for, and what it says
-abbrev pub IsExamined : RequestHead → Examined → Type 0
-IsExamined h examined.Chunked = says (lines h) ≡ coded
-IsExamined h examined.NoLength = says (lines h) ≡ bad_length
-IsExamined h examined.Over = says (lines h) ≡ too_much
-IsExamined h examined.Memory = ⊤
-IsExamined h (examined.Body b n) = IsBegun h b × (says (lines h) ≡ of_length n) × (n ≤ most_body)
+-- what the head says, with the body's length
+abbrev pub IsExamined : RequestHead → Result (Begun × ℕ) Stop → Type 0
+IsExamined h (Ok x) = IsBegun h x.0 × (says (lines h) ≡ of_length x.1) × (x.1 ≤ most_body)
+IsExamined h (Err why) = IsSaid (says (lines h)) why

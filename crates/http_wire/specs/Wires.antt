@@ -1,8 +1,12 @@
 -- What one call gives of a connection's input.
-use Rattle.std.specs.Prelude.{◌≡◌, ℕ, ◌≤◌, List, length, ⊤}
+use Rattle.std.specs.Prelude.{◌≡◌, ◌⊎◌, ℕ, ◌≤◌, List, length, ⊤, Result, Ok, Err}
 use Rattle.news_io.specs.Faults.{Rose}
 use Rattle.http_wire.specs.Limits.{most_body}
 use Rattle.http_wire.specs.Requests.{Asks, Ends, at_end, head_fault, too_large, chunked_body}
+use Rattle.http_wire.specs.Unfinished.{IsUnfinished, HasWholeHead}
+use Rattle.http_wire.specs.declared.stop.Stop.{Stop}
+use Rattle.http_wire.specs.declared.stop.Stop.TheVariants as stop
+use Rattle.http_wire.specs.declared.request.HttpRequest.{HttpRequest}
 use Rattle.http_wire.specs.declared.request.Wire.{Wire}
 use Rattle.http_wire.specs.declared.request.Wire.TheVariants.{Request, End, HeadFault, TooLarge, Chunked, ReadFault, Memory}
 
@@ -15,6 +19,18 @@ IsWire input left TooLarge = Ends input too_large × (left ≡ input)
 IsWire input left Chunked = Ends input chunked_body × (left ≡ input)
 IsWire input left ReadFault = left ≡ input
 IsWire input left Memory = left ≡ input
+
+-- What the bytes at hand have: the ending that was told, as if they were all of the input. Where the source failed they
+-- are unfinished, and so they are where there was no room for another read; memory may also be wanted for a request whose
+-- head stands there.
+abbrev pub IsAtHand : List ℕ → Wire → Type 0
+IsAtHand bytes (Request r) = ⊤
+IsAtHand bytes End = Ends bytes at_end
+IsAtHand bytes HeadFault = Ends bytes head_fault
+IsAtHand bytes TooLarge = Ends bytes too_large
+IsAtHand bytes Chunked = Ends bytes chunked_body
+IsAtHand bytes ReadFault = IsUnfinished bytes
+IsAtHand bytes Memory = IsUnfinished bytes ⊎ HasWholeHead bytes
 
 -- the count rose for a fault, and else it is as it was
 abbrev pub CountsWire : ℕ → ℕ → Wire → Type 0
@@ -35,3 +51,18 @@ IsShort TooLarge = ⊤
 IsShort Chunked = ⊤
 IsShort ReadFault = ⊤
 IsShort Memory = ⊤
+
+-- ---- why no request comes
+
+abbrev pub stop_wire : Stop → Wire
+stop_wire stop.End = End
+stop_wire stop.HeadFault = HeadFault
+stop_wire stop.TooLarge = TooLarge
+stop_wire stop.Chunked = Chunked
+stop_wire stop.ReadFault = ReadFault
+stop_wire stop.Memory = Memory
+
+-- a request, or why none comes
+abbrev pub given : Result HttpRequest Stop → Wire
+given (Ok r) = Request r
+given (Err why) = stop_wire why

@@ -2,26 +2,27 @@
 use Rattle.std.specs.Prelude.{◌≡◌, ℕ, ◌++◌, List, [], ◌∷◌, length, codes, decimal, Result, Ok, Err}
 use Rattle.std.specs.List.{concat}
 use Rattle.news_io.specs.declared.faults.Failed.{Failed}
+use Rattle.news_io.specs.Sink.{SinkMeaning}
 
 -- what stands in the text before this rest of it was written
-pub record Wrote {O : Type 0} (taken : O → List ℕ) (old new : O) (text rest : List ℕ) : Type 0 where
+pub record Wrote {O : Type 0} (sink : SinkMeaning O) (old new : O) (text rest : List ℕ) : Type 0 where
   pub said : List ℕ
   pub part : text ≡ said ++ rest
-  pub wrote : taken new ≡ taken old ++ said
+  pub wrote : sink.taken new ≡ sink.taken old ++ said
 
 -- a beginning of the text was written
-abbrev pub WroteSome : {O : Type 0} → (O → List ℕ) → O → O → List ℕ → Type 0
-WroteSome taken old new text = (rest : List ℕ) × Wrote taken old new text rest
+abbrev pub WroteSome : {O : Type 0} → SinkMeaning O → O → O → List ℕ → Type 0
+WroteSome sink old new text = (rest : List ℕ) × Wrote sink old new text rest
 
 -- all of the text, or a beginning of it where the sink failed
-abbrev pub Writes : {O : Type 0} → (O → List ℕ) → O → O → List ℕ → Result (Unit {0}) Failed → Type 0
-Writes taken old new text (Ok u) = taken new ≡ taken old ++ text
-Writes taken old new text (Err e) = WroteSome taken old new text
+abbrev pub Writes : {O : Type 0} → SinkMeaning O → O → O → List ℕ → Result (Unit {0}) Failed → Type 0
+Writes sink old new text (Ok u) = sink.taken new ≡ sink.taken old ++ text
+Writes sink old new text (Err e) = WroteSome sink old new text
 
 -- all of the text but what is held back, or a beginning of it where the sink failed
-abbrev pub Puts : {O : Type 0} → (O → List ℕ) → O → O → List ℕ → List ℕ → Result (Unit {0}) Failed → Type 0
-Puts taken old new text held (Ok u) = Wrote taken old new text held
-Puts taken old new text held (Err e) = WroteSome taken old new text
+abbrev pub Puts : {O : Type 0} → SinkMeaning O → O → O → List ℕ → List ℕ → Result (Unit {0}) Failed → Type 0
+Puts sink old new text held (Ok u) = Wrote sink old new text held
+Puts sink old new text held (Err e) = WroteSome sink old new text
 
 -- the bytes of a response: its parts, one behind the other
 abbrev pub response : ℕ → List ℕ → List ℕ → List ℕ

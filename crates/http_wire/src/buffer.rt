@@ -9,7 +9,7 @@ use std::marker::Model;
 /// As many header lines as a head of 16384 bytes can have, since each has at least three bytes.
 const MOST_LINES: usize = 5461;
 
-/// The bytes of a connection that were read and not yet asked for, at most 2117632, and room for the lines of a head.
+/// The bytes of a connection that were read and not yet asked for, at most 4214784, and room for the lines of a head.
 /// A contract sees it as these bytes.
 #[derive(Drop)]
 pub struct Buffer {

@@ -1,65 +1,59 @@
 //! Bytes of a source are put behind others.
-ghost use Rattle.std.specs.Prelude.{◌≤◌, ◌+◌, vec_len};
+ghost use Rattle.std.specs.Prelude.{◌≡◌, ◌≤◌, ◌<◌, ◌+◌, ◌++◌, ℕ, List, [], Ok, Err, IfErr, MatchResult, OnOk, OnErr, false, vec_len};
+ghost use Rattle.http_wire.specs.declared.stop.Stop.TheVariants.{HeadFault};
 ghost use Rattle.http_wire.specs.Limits.{most_held, most_read};
-ghost use Rattle.http_wire.specs.Steps.{IsFilled, Grows, CountsFilled, IsGathered, Reaches};
+ghost use Rattle.http_wire.specs.Steps.{Adds, Grows, IsUnread, IsCutShort, CountsStop};
 
+use crate::stop::Stop;
 use news_io::Source;
 
 /// As many bytes as are asked of the source at once.
 const MOST_READ: usize = 4096;
 
-/// What came of reading.
-#[derive(Clone, Copy, Drop)]
-pub(crate) enum Filled {
-    /// More bytes stand there.
-    More,
-    /// The input has ended.
-    End,
-    /// The source failed.
-    Fault,
-    /// There is no room for more.
-    Memory,
-}
-
-/// Reads once. The room for it is made before, so that no byte is lost.
-pub(crate) fn fill<S: Source>(bytes: &mut Vec<u8>, source: &mut S) -> Filled
-    ensures filled { S.tells source.old → IsFilled bytes.old.items (S.ahead source.old) bytes.new.items (S.ahead source.new) result }
+/// Reads once: whether more bytes stand there, or the input has ended. The room for it is made before, so that no byte
+/// is lost.
+pub(crate) fn fill<S: Source>(bytes: &mut Vec<u8>, source: &mut S) -> Result<bool, Stop>
+    ensures input { S.source.tells source.old → bytes.new.items ++ S.source.ahead source.new ≡ bytes.old.items ++ S.source.ahead source.old }
+    ensures ended { S.source.tells source.old → result ≡ Ok false → S.source.ahead source.new ≡ [] }
+    ensures adds { Adds bytes.old.items bytes.new.items result }
     ensures grows { Grows (vec_len bytes.old) (vec_len bytes.new) result }
-    ensures told { S.tells source.old → S.tells source.new }
-    ensures count { CountsFilled (S.faults source.old) (S.faults source.new) result }
+    ensures unread { IfErr result IsUnread }
+    ensures told { S.source.tells source.old → S.source.tells source.new }
+    ensures count { CountsStop (S.source.faults source.old) (S.source.faults source.new) result }
 {
-    if let Err(_) = bytes.reserve(MOST_READ) {
-        return Filled::Memory;
-    }
+    bytes.reserve(MOST_READ)?;
     let mut piece = [0u8; MOST_READ];
-    let Ok(count) = source.read(&mut piece) else {
-        return Filled::Fault;
-    };
+    let count = source.read(&mut piece)?;
     if count == 0 {
-        return Filled::End;
+        return Ok(false);
     }
     if let Err(_) = bytes.extend_from_slice(&piece[..count]) {
         unreachable!();
     }
-    Filled::More
+    Ok(true)
 }
 
-/// Reads until so many bytes stand there.
-pub(crate) fn gather<S: Source>(bytes: &mut Vec<u8>, source: &mut S, until: usize) -> Filled
+/// Reads until so many bytes of a request stand there. It reads only while there are fewer.
+pub(crate) fn gather<S: Source>(
+    bytes: &mut Vec<u8>,
+    source: &mut S,
+    until: usize,
+) -> Result<(), Stop>
     requires { until + most_read ≤ most_held }
-    ensures gathered { S.tells source.old → IsGathered until bytes.old.items (S.ahead source.old) bytes.new.items (S.ahead source.new) result }
-    ensures reaches { Reaches until (vec_len bytes.new) result }
+    ensures input { S.source.tells source.old → bytes.new.items ++ S.source.ahead source.new ≡ bytes.old.items ++ S.source.ahead source.old }
+    ensures ended { S.source.tells source.old → result ≡ Err HeadFault → S.source.ahead source.new ≡ [] }
+    ensures more { (piece : List ℕ) × (bytes.new.items ≡ bytes.old.items ++ piece) }
+    ensures reaches { OnOk result (until ≤ vec_len bytes.new) }
+    ensures short { OnErr result (vec_len bytes.new < until) }
+    ensures cut { IfErr result IsCutShort }
     ensures held { vec_len bytes.old ≤ most_held → vec_len bytes.new ≤ most_held }
-    ensures told { S.tells source.old → S.tells source.new }
-    ensures count { CountsFilled (S.faults source.old) (S.faults source.new) result }
+    ensures told { S.source.tells source.old → S.source.tells source.new }
+    ensures count { CountsStop (S.source.faults source.old) (S.source.faults source.new) result }
 {
     while bytes.len() < until {
-        match fill(bytes, source) {
-            Filled::More => {}
-            Filled::End => return Filled::End,
-            Filled::Fault => return Filled::Fault,
-            Filled::Memory => return Filled::Memory,
+        if !fill(bytes, source)? {
+            return Err(Stop::HeadFault);
         }
     }
-    Filled::More
+    Ok(())
 }

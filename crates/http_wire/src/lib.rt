@@ -12,6 +12,7 @@ mod request;
 mod respond;
 mod ruling;
 mod seek;
+mod stop;
 mod target;
 #[cfg(test)]
 mod tests;

@@ -66,9 +66,9 @@ impl Page {
 
     /// Holds these back too, or writes all, where there is no room for them.
     pub(crate) fn put<O: Sink>(&mut self, sink: &mut O, more: &[u8]) -> Result<(), Failed>
-        ensures wrote { O.tells sink.old → Puts O.taken sink.old sink.new (self.old ++ more.now) self.new result }
-        ensures told { O.tells sink.old → O.tells sink.new }
-        ensures count { Counts (O.faults sink.old) (O.faults sink.new) result }
+        ensures wrote { O.sink.tells sink.old → Puts O.sink sink.old sink.new (self.old ++ more.now) self.new result }
+        ensures told { O.sink.tells sink.old → O.sink.tells sink.new }
+        ensures count { Counts (O.sink.faults sink.old) (O.sink.faults sink.new) result }
     {
         if self.add(more) {
             return Ok(());

@@ -1,14 +1,15 @@
 //! The next request of a connection.
 ghost use Rattle.std.specs.Prelude.{◌≡◌, ◌≤◌, ◌-◌, ◌++◌, length, take, drop, IfOk, OnOk, OnErr, vec_len};
 ghost use Rattle.http_wire.specs.Limits.{most_lines, most_held};
-ghost use Rattle.http_wire.specs.Steps.{HasHead};
-ghost use Rattle.http_wire.specs.Wires.{IsWire, CountsWire, IsShort};
+ghost use Rattle.http_wire.specs.Steps.{HasHead, CountsStop};
+ghost use Rattle.http_wire.specs.Wires.{IsWire, IsAtHand, CountsWire, IsShort, given};
 
 use crate::buffer::Buffer;
-use crate::fill::{Filled, gather};
+use crate::fill::gather;
 use crate::request::{HttpRequest, Wire};
-use crate::ruling::{Examined, examine};
-use crate::seek::{Sought, seek};
+use crate::ruling::examine;
+use crate::seek::seek;
+use crate::stop::{Stop, wire_of};
 use httparse::spans::{HeaderSpan, RequestSpans};
 use news_io::Source;
 use news_types::{Bytes, Memory};
@@ -36,32 +37,20 @@ fn read_rest<S: Source>(
     spans: &[HeaderSpan],
     head: RequestSpans,
     source: &mut S,
-) -> Wire
+) -> Result<HttpRequest, Stop>
     requires { HasHead bytes.old.items spans.now head }
-    ensures wire { S.tells source.old → IsWire (bytes.old.items ++ S.ahead source.old) (bytes.new.items ++ S.ahead source.new) result }
+    ensures wire { S.source.tells source.old → IsWire (bytes.old.items ++ S.source.ahead source.old) (bytes.new.items ++ S.source.ahead source.new) (given result) }
+    ensures at_hand { IsAtHand bytes.new.items (given result) }
     ensures held { vec_len bytes.old ≤ most_held → vec_len bytes.new ≤ most_held }
-    ensures told { S.tells source.old → S.tells source.new }
-    ensures short { IsShort result }
-    ensures count { CountsWire (S.faults source.old) (S.faults source.new) result }
+    ensures told { S.source.tells source.old → S.source.tells source.new }
+    ensures short { IsShort (given result) }
+    ensures count { CountsStop (S.source.faults source.old) (S.source.faults source.new) result }
 {
-    let (begun, length) = match examine(alloc, bytes, spans, head) {
-        Examined::Chunked => return Wire::Chunked,
-        Examined::NoLength => return Wire::HeadFault,
-        Examined::Over => return Wire::TooLarge,
-        Examined::Memory => return Wire::Memory,
-        Examined::Body(begun, length) => (begun, length),
-    };
+    let (begun, length) = examine(alloc, bytes, spans, head)?;
     let until = head.len + length as usize;
-    match gather(bytes, source, until) {
-        Filled::More => {}
-        Filled::End => return Wire::HeadFault,
-        Filled::Fault => return Wire::ReadFault,
-        Filled::Memory => return Wire::Memory,
-    }
-    let Ok(body) = cut(alloc, bytes, head.len, until) else {
-        return Wire::Memory;
-    };
-    Wire::Request(HttpRequest {
+    gather(bytes, source, until)?;
+    let body = cut(alloc, bytes, head.len, until)?;
+    Ok(HttpRequest {
         method: begun.method,
         target: begun.target,
         user: begun.user,
@@ -76,31 +65,33 @@ fn read_next<S: Source>(
     bytes: &mut Vec<u8>,
     spans: &mut [HeaderSpan],
     source: &mut S,
-) -> Wire
+) -> Result<HttpRequest, Stop>
     requires { most_lines ≤ length spans.old }
-    ensures wire { S.tells source.old → IsWire (bytes.old.items ++ S.ahead source.old) (bytes.new.items ++ S.ahead source.new) result }
+    ensures wire { S.source.tells source.old → IsWire (bytes.old.items ++ S.source.ahead source.old) (bytes.new.items ++ S.source.ahead source.new) (given result) }
+    ensures at_hand { IsAtHand bytes.new.items (given result) }
     ensures held { vec_len bytes.old ≤ most_held → vec_len bytes.new ≤ most_held }
-    ensures told { S.tells source.old → S.tells source.new }
-    ensures short { IsShort result }
-    ensures count { CountsWire (S.faults source.old) (S.faults source.new) result }
+    ensures told { S.source.tells source.old → S.source.tells source.new }
+    ensures short { IsShort (given result) }
+    ensures count { CountsStop (S.source.faults source.old) (S.source.faults source.new) result }
 {
-    match seek(bytes, spans, source) {
-        Sought::Head(head) => read_rest(alloc, bytes, spans, head, source),
-        Sought::End => Wire::End,
-        Sought::HeadFault => Wire::HeadFault,
-        Sought::TooLarge => Wire::TooLarge,
-        Sought::ReadFault => Wire::ReadFault,
-        Sought::Memory => Wire::Memory,
-    }
+    let head = seek(bytes, spans, source)?;
+    read_rest(alloc, bytes, spans, head, source)
 }
 
 /// Reads the next request of a connection. What was read behind it stays in the buffer; so does all that is no request.
+///
+/// It reads only while the bytes at hand are unfinished: no request stands whole in them, and their lines are refused by
+/// nothing. Any read may fail, and then it is these bytes that stay in the buffer.
 pub fn read_request<S: Source>(buffer: &mut Buffer, source: &mut S) -> Wire
-    ensures wire { S.tells source.old → IsWire (buffer.old ++ S.ahead source.old) (buffer.new ++ S.ahead source.new) result }
+    ensures wire { S.source.tells source.old → IsWire (buffer.old ++ S.source.ahead source.old) (buffer.new ++ S.source.ahead source.new) result }
+    ensures at_hand { IsAtHand buffer.new result }
     ensures held { length buffer.new ≤ most_held }
-    ensures told { S.tells source.old → S.tells source.new }
+    ensures told { S.source.tells source.old → S.source.tells source.new }
     ensures short { IsShort result }
-    ensures count { CountsWire (S.faults source.old) (S.faults source.new) result }
+    ensures count { CountsWire (S.source.faults source.old) (S.source.faults source.new) result }
 {
-    read_next(buffer.alloc, &mut buffer.bytes, &mut buffer.lines, source)
+    match read_next(buffer.alloc, &mut buffer.bytes, &mut buffer.lines, source) {
+        Ok(request) => Wire::Request(request),
+        Err(stop) => wire_of(stop),
+    }
 }

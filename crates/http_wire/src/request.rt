@@ -13,7 +13,7 @@ pub struct HttpRequest {
     pub user: Option<Name>,
     /// The connection is to end behind its answer: it is HTTP/1.0, or a `Connection` line says `close`.
     pub close: bool,
-    /// The body, at most 2097152 bytes.
+    /// The body, at most 4194304 bytes.
     pub body: Bytes,
 }
 
@@ -26,7 +26,7 @@ pub enum Wire {
     End,
     /// What stands there is no head, or ends inside a head or a body, or its `Content-Length` is not of the form.
     HeadFault,
-    /// A head of more than 16384 bytes or 64 header lines, or a body of more than 2097152 bytes.
+    /// A head of more than 16384 bytes or 64 header lines, or a body of more than 4194304 bytes.
     TooLarge,
     /// A head with a `Transfer-Encoding` line, which is not read here.
     Chunked,

@@ -8,9 +8,9 @@ use news_io::{Failed, Sink, write_all};
 
 /// Writes these pieces, or the first of their bytes where the sink fails.
 fn write_pieces<O: Sink>(sink: &mut O, pieces: &[&[u8]]) -> Result<(), Failed>
-    ensures wrote { O.tells sink.old → Writes O.taken sink.old sink.new (flat_map (λ p. p.now) pieces.now) result }
-    ensures told { O.tells sink.old → O.tells sink.new }
-    ensures count { Counts (O.faults sink.old) (O.faults sink.new) result }
+    ensures wrote { O.sink.tells sink.old → Writes O.sink sink.old sink.new (flat_map (λ p. p.now) pieces.now) result }
+    ensures told { O.sink.tells sink.old → O.sink.tells sink.new }
+    ensures count { Counts (O.sink.faults sink.old) (O.sink.faults sink.new) result }
 {
     let mut page = Page::new();
     for piece in pieces {
@@ -29,9 +29,9 @@ pub fn write_response<O: Sink>(
     media: &str,
     body: &[u8],
 ) -> Result<(), Failed>
-    ensures wrote { O.tells sink.old → Writes O.taken sink.old sink.new (response status media.now body.now) result }
-    ensures told { O.tells sink.old → O.tells sink.new }
-    ensures count { Counts (O.faults sink.old) (O.faults sink.new) result }
+    ensures wrote { O.sink.tells sink.old → Writes O.sink sink.old sink.new (response status media.now body.now) result }
+    ensures told { O.sink.tells sink.old → O.sink.tells sink.new }
+    ensures count { Counts (O.sink.faults sink.old) (O.sink.faults sink.new) result }
 {
     let mut number = itoa::Buffer::new();
     let mut length = itoa::Buffer::new();

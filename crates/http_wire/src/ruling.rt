@@ -4,10 +4,11 @@ ghost use Rattle.httparse.specs.Grammar.{RequestHead};
 ghost use Rattle.httparse.specs.Spans.{IsHeaderWithin, header_bytes, IsRequestWithin, IsRequestAt};
 ghost use Rattle.http_wire.specs.Limits.{most_head, front};
 ghost use Rattle.http_wire.specs.Heads.{says, lines};
-ghost use Rattle.http_wire.specs.Steps.{HasHead, said, IsBounded, IsBegun, IsExamined};
+ghost use Rattle.http_wire.specs.Steps.{HasHead, IsRuled, IsBegun, IsExamined};
 
 use crate::fields::{body_length, closes, count_named, user};
 use crate::head::method_of;
+use crate::stop::Stop;
 use http::Method;
 use httparse::spans::{HeaderSpan, RequestSpans};
 use news_types::{Memory, Name, Text};
@@ -18,47 +19,29 @@ pub(crate) const MOST_HEAD: usize = 16384;
 
 const MOST_FIELDS: usize = 64;
 
-const MOST_BODY: u64 = 2097152;
+const MOST_BODY: u64 = 4194304;
 
-/// What a head's lines say of its body.
-#[derive(Clone, Copy, Drop)]
-pub(crate) enum Ruling {
-    /// It comes in a coding.
-    Chunked,
-    /// Its length is not of the form.
-    NoLength,
-    /// It is too long, or the lines are too many.
-    Over,
-    /// It has so many bytes.
-    Body(u64),
-}
-
-/// What these header lines say of the body.
-fn judge(bytes: &[u8], lines: &[HeaderSpan]) -> Ruling
+/// How long the body is, as these header lines say.
+fn judge(bytes: &[u8], lines: &[HeaderSpan]) -> Result<u64, Stop>
     requires { All (IsHeaderWithin (length bytes.now)) lines.now }
-    ensures ruled { said result ≡ says (map (header_bytes bytes.now) lines.now) }
-    ensures bounded { IsBounded result }
+    ensures { IsRuled (says (map (header_bytes bytes.now) lines.now)) result }
 {
     if count_named(bytes, lines, b"transfer-encoding") > 0 {
-        return Ruling::Chunked;
+        return Err(Stop::Chunked);
     }
-    match body_length(bytes, lines) {
-        None => Ruling::NoLength,
-        Some(length) => {
-            if lines.len() > MOST_FIELDS || length > MOST_BODY {
-                Ruling::Over
-            } else {
-                Ruling::Body(length)
-            }
-        }
+    let Some(length) = body_length(bytes, lines) else {
+        return Err(Stop::HeadFault);
+    };
+    if lines.len() > MOST_FIELDS || length > MOST_BODY {
+        return Err(Stop::TooLarge);
     }
+    Ok(length)
 }
 
-/// What a head's lines say of the body.
-fn judge_head(bytes: &[u8], spans: &[HeaderSpan], head: RequestSpans) -> Ruling
+/// How long the body is, as a head says.
+fn judge_head(bytes: &[u8], spans: &[HeaderSpan], head: RequestSpans) -> Result<u64, Stop>
     requires { IsRequestWithin bytes.now spans.now head }
-    ensures ruled { (h : RequestHead) → IsRequestAt bytes.now spans.now head h → said result ≡ says (lines h) }
-    ensures bounded { IsBounded result }
+    ensures { (h : RequestHead) → IsRequestAt bytes.now spans.now head h → IsRuled (says (lines h)) result }
 {
     judge(bytes, &spans[..head.headers])
 }
@@ -105,36 +88,18 @@ pub(crate) fn look(bytes: &[u8]) -> &[u8]
     &bytes[..looked]
 }
 
-/// What a head at the front of the bytes asks for.
-#[derive(Drop)]
-pub(crate) enum Examined {
-    Chunked,
-    NoLength,
-    Over,
-    Memory,
-    /// What it says, and the length of the body.
-    Body(Begun, u64),
-}
-
-/// What the head at the front asks for, and what it says.
+/// What the head at the front says but for the body, and how long the body is.
 pub(crate) fn examine(
     alloc: Global,
     bytes: &[u8],
     spans: &[HeaderSpan],
     head: RequestSpans,
-) -> Examined
+) -> Result<(Begun, u64), Stop>
     requires { HasHead bytes.now spans.now head }
     ensures { (h : RequestHead) → IsRequestAt (front bytes.now) spans.now head h → IsExamined h result }
 {
     let front = look(bytes);
-    let length = match judge_head(front, spans, head) {
-        Ruling::Chunked => return Examined::Chunked,
-        Ruling::NoLength => return Examined::NoLength,
-        Ruling::Over => return Examined::Over,
-        Ruling::Body(length) => length,
-    };
-    match begin(alloc, front, spans, head) {
-        Ok(begun) => Examined::Body(begun, length),
-        Err(_) => Examined::Memory,
-    }
+    let length = judge_head(front, spans, head)?;
+    let begun = begin(alloc, front, spans, head)?;
+    Ok((begun, length))
 }

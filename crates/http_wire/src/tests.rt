@@ -106,11 +106,11 @@ const BODIES: &[Row] = &[
         b"TooLarge",
     ),
     (
-        b"POST / HTTP/1.1\r\nContent-Length: 2097153\r\n\r\n",
+        b"POST / HTTP/1.1\r\nContent-Length: 4194305\r\n\r\n",
         b"TooLarge",
     ),
     (
-        b"POST / HTTP/1.1\r\nContent-Length: 2097152\r\n\r\nab",
+        b"POST / HTTP/1.1\r\nContent-Length: 4194304\r\n\r\nab",
         b"HeadFault",
     ),
     (
@@ -346,15 +346,15 @@ fn long_heads_are_measured_in_any_pieces(rt: HostRuntime) -> Result<(), Fail> {
 #[test]
 fn the_longest_body_is_read(rt: HostRuntime) -> Result<(), Fail> {
     let alloc = rt.alloc();
-    let begin = b"POST / HTTP/1.1\r\nContent-Length: 2097152\r\n\r\n";
-    let input = long_input(alloc, begin, b"a", 2097152, b"GET /queue HTTP/1.1\r\n\r\n")?;
+    let begin = b"POST / HTTP/1.1\r\nContent-Length: 4194304\r\n\r\n";
+    let input = long_input(alloc, begin, b"a", 4194304, b"GET /queue HTTP/1.1\r\n\r\n")?;
     let mut source = MemorySource::new(input);
     let Ok(mut buffer) = Buffer::new(alloc) else {
         return Err(Fail::new("no memory"));
     };
     let mut said = Vec::new(alloc);
     assert!(rt; say_next(&mut said, &mut buffer, &mut source)?);
-    assert_eq!(rt; said.len(), 2097152 + 15);
+    assert_eq!(rt; said.len(), 4194304 + 15);
     said.clear();
     assert!(rt; say_next(&mut said, &mut buffer, &mut source)?);
     assert_eq!(rt; said.as_slice(), GET);
@@ -384,6 +384,34 @@ fn a_failed_read_loses_nothing(rt: HostRuntime) -> Result<(), Fail> {
         b"ReadFaultReadFaultPOST / - open 01234567890123456789\nEnd".as_slice()
     );
     assert_eq!(rt; source.fault_count(), 2);
+    Ok(())
+}
+
+/// Whole requests, each of which comes in one read.
+const WHOLE: &[Row] = &[
+    (b"GET /queue HTTP/1.1\r\n\r\n", GET),
+    (
+        b"POST / HTTP/1.1\r\nContent-Length: 2\r\n\r\nab",
+        b"POST / - open ab\n",
+    ),
+];
+
+/// Nothing is read behind a whole request: the next read would fail.
+#[test]
+fn a_whole_request_is_not_waited_on(rt: HostRuntime) -> Result<(), Fail> {
+    let alloc = rt.alloc();
+    for row in WHOLE {
+        let mut failing = Vec::new(alloc);
+        failing.push(2u64)?;
+        let mut source = MemorySource::new(row.0.to_vec(alloc)?).failing_at(failing);
+        let Ok(mut buffer) = Buffer::new(alloc) else {
+            return Err(Fail::new("no memory"));
+        };
+        let mut said = Vec::new(alloc);
+        assert!(rt; say_next(&mut said, &mut buffer, &mut source)?);
+        assert_eq!(rt; said.as_slice(), row.1);
+        assert_eq!(rt; source.fault_count(), 0);
+    }
     Ok(())
 }
 

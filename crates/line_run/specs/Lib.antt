@@ -1,4 +1,4 @@
-pub mod Batch
+pub mod Turns
 pub mod Life
 pub mod Run
 pub mod Status

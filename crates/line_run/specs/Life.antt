@@ -1,8 +1,9 @@
 -- Lists of what was kept, the newest first, and what stands for one.
-use Rattle.std.specs.Prelude.{◌≡◌, ℕ, Bool, List, ◌++◌, Option}
+use Rattle.std.specs.Prelude.{◌≡◌, ℕ, Bool, List, ◌++◌}
 use Rattle.news_io.specs.Clock.{Gave}
-use Rattle.news_io.specs.Left.{Between}
+use Rattle.news_io.specs.Left.{IsLeft, Between}
 use Rattle.news_io.specs.Moments.{Elapses}
+use Rattle.news_io.specs.Sink.{SinkMeaning}
 
 -- what a member of the input is answered, what follows the list, the newest first, whether one of that would pass the limit, and the readings of the clock
 pub record Outcome (T : Type 0) : Type 0 where
@@ -16,26 +17,34 @@ abbrev pub Meaning : Type 0 → Type 0 → Type 0
 Meaning T X = List T → X → ℕ → Outcome T
 
 -- how values of a type stand for lists, and what a crash may leave of one
-pub record Life (T A : Type 0) : Type 1 where
+pub record Life (T C A : Type 0) : Type 1 where
   pub stands : A → List T → Type 0
   pub doubts : A → T → Type 0
   pub moment : A → ℕ
-  pub left_since : A → ℕ → Option (List T) → Type 0
+  pub left_since : A → ℕ → C → Type 0
+  -- what was left opens to this list
+  pub opens : C → List T → Type 0
   -- the readings that its clock has ahead, where the clock tells them
   pub tells : A → Type 0
   pub ahead : A → ℕ → ℕ
+  -- a crash now leaves the list, or the list with one entry in doubt
+  pub leaves_now : (it : A) (h : List T) (found : C) → stands it h → left_since it (moment it) found → IsLeft opens h (doubts it) found
 
 -- what was added, where it is told
-pub record Wrote {O : Type 0} (tells : O → Type 0) (taken : O → List ℕ) (old new : O) (written : List ℕ) : Type 0 where
-  pub told : tells old → tells new
-  pub bytes : tells old → taken new ≡ taken old ++ written
+pub record Wrote {O : Type 0} (sink : SinkMeaning O) (old new : O) (written : List ℕ) : Type 0 where
+  pub told : sink.tells old → sink.tells new
+  pub bytes : sink.tells old → sink.taken new ≡ sink.taken old ++ written
+
+-- all that was written has passed on
+abbrev pub AllPassed : {O : Type 0} → SinkMeaning O → O → Type 0
+AllPassed sink o = sink.passed o ≡ sink.taken o
 
 -- the readings that were taken, where they are told
-pub record Took {A : Type 0} (tells : A → Type 0) (ahead : A → ℕ → ℕ) (old new : A) (readings : List ℕ) : Type 0 where
-  pub told : tells old → tells new
-  pub gave : tells old → Gave (ahead old) readings (ahead new)
+pub record Took {T C A : Type 0} (L : Life T C A) (old new : A) (readings : List ℕ) : Type 0 where
+  pub told : L.tells old → L.tells new
+  pub gave : L.tells old → Gave (L.ahead old) readings (L.ahead new)
 
 -- it stood for h and stands for g, and each moment leaves something between
-pub record Kept {T A : Type 0} (L : Life T A) (D : T → Type 0) (old new : A) (h g : List T) : Type 0 where
+pub record Kept {T C A : Type 0} (L : Life T C A) (old new : A) (h g : List T) : Type 0 where
   pub list : L.stands new g
-  pub time : Elapses (L.moment old) (L.moment new) (L.left_since old) (L.left_since new) (Between h g D)
+  pub time : Elapses (L.moment old) (L.moment new) (L.left_since old) (L.left_since new) (Between L.opens h g (L.doubts old) (L.doubts new))

@@ -1,7 +1,6 @@
 // What answers lines, and keeps what they add to its list.
 ghost use Rattle.std.specs.Prelude.{◌≡◌, ℕ, List, Option, option_map};
 ghost use Rattle.input_lines.specs.Lines.{Line};
-ghost use Rattle.news_io.specs.Left.{IsLeft};
 ghost use Rattle.line_run.specs.Life.{Meaning, Life};
 ghost use Rattle.line_run.specs.Step.{IsStep, StepCounts};
 
@@ -21,6 +20,9 @@ pub trait Answering {
     /// What it keeps.
     ghost Entry: { Type 0 };
 
+    /// What a crash may leave of it.
+    ghost Found: { Type 0 };
+
     /// What is fixed while it answers, as the store and where its keeper began.
     ghost Shelf: { Type 0 };
 
@@ -28,7 +30,7 @@ pub trait Answering {
     ghost faults: { Self → ℕ };
 
     /// How it stands for a list, and what a crash may leave.
-    ghost life: { Shelf → Life Entry Self };
+    ghost life: { Shelf → Life Entry Found Self };
 
     /// What a line is answered at a list, and what it adds.
     ghost meaning: { Shelf → Meaning Entry Line };
@@ -38,7 +40,4 @@ pub trait Answering {
         requires { (shelf : Shelf) × ((h : List Entry) × (life shelf).stands self.old h) }
         ensures step { (shelf : Shelf) (h : List Entry) → (life shelf).stands self.old h → IsStep (meaning shelf) (life shelf) self.old self.new h (option_map (λ l. l.now) line.entry) result }
         ensures count { StepCounts (faults self.old) (faults self.new) result };
-
-    /// A crash now leaves the list, or the list with one entry in doubt.
-    ghost leaves_now: { (shelf : Shelf) (it : Self) (h : List Entry) (found : Option (List Entry)) → (life shelf).stands it h → (life shelf).left_since it ((life shelf).moment it) found → IsLeft h ((life shelf).doubts it) found };
 }

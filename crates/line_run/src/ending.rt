@@ -1,7 +1,9 @@
 // Why a run ended.
 ghost use Rattle.std.specs.Prelude.{◌≡◌};
+ghost use Rattle.line_run.specs.Turns.{ending_of};
 ghost use Rattle.line_run.specs.declared.ending.Ending.TheVariants.{Memory};
 
+use crate::Stopped;
 use std::alloc::AllocError;
 
 #[derive(Clone, Copy, Debug, PartialEq, Eq)]
@@ -25,5 +27,17 @@ impl From<AllocError> for Ending {
 
     fn from(_: AllocError) -> Self {
         Ending::Memory
+    }
+}
+
+impl From<Stopped> for Ending {
+    ghost from_gives = { λ why e. e ≡ ending_of why };
+
+    fn from(why: Stopped) -> Self {
+        match why {
+            Stopped::Memory => Ending::Memory,
+            Stopped::Fault => Ending::Store,
+            Stopped::Full => Ending::Full,
+        }
     }
 }

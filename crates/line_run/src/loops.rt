@@ -1,32 +1,27 @@
 // Lines are answered one after the other.
 ghost use Rattle.std.specs.Prelude.{◌≡◌, ◌≤◌, ◌+◌, ◌∷◌, [], ℕ, List, length, take, option_map, OnOk};
 ghost use Rattle.input_lines.specs.Lines.{unless_empty, ended_from, open_from};
-ghost use Rattle.line_run.specs.Batch.{Did, Causes};
+ghost use Rattle.line_run.specs.Turns.{Did, Causes};
 
-use crate::{Answering, Ending, Stopped};
+use crate::{Answering, Ending};
 use input_lines::{behind, keep, line_feed, show, without_return};
-use news_io::{Sink, write_all};
+use news_io::{Sink, write_through};
 
-/// Answers a line, and writes the answer with a line feed.
+/// Answers a line, writes the answer with a line feed, and passes it on.
 pub fn answer_line<O: Sink, A: Answering>(
     line: Option<&[u8]>,
     output: &mut O,
     machine: &mut A,
 ) -> Result<(), Ending>
     requires { (shelf : A.Shelf) × ((h : List A.Entry) × (A.life shelf).stands machine.old h) }
-    ensures did { (shelf : A.Shelf) (h : List A.Entry) → (A.life shelf).stands machine.old h → Did (A.meaning shelf) (A.life shelf) O.tells O.taken machine.old machine.new output.old output.new h (option_map (λ l. l.now) line.entry ∷ []) result }
-    ensures causes { Causes (A.faults machine.old) (A.faults machine.new) (O.faults output.old) (O.faults output.new) result }
+    ensures did { (shelf : A.Shelf) (h : List A.Entry) → (A.life shelf).stands machine.old h → Did (A.meaning shelf) (A.life shelf) O.sink machine.old machine.new output.old output.new h (option_map (λ l. l.now) line.entry ∷ []) result }
+    ensures causes { Causes (A.faults machine.old) (A.faults machine.new) (O.sink.faults output.old) (O.sink.faults output.new) result }
 {
-    let mut text = match machine.answer(line) {
-        Ok(text) => text,
-        Err(Stopped::Memory) => return Err(Ending::Memory),
-        Err(Stopped::Fault) => return Err(Ending::Store),
-        Err(Stopped::Full) => return Err(Ending::Full),
-    };
+    let mut text = machine.answer(line)?;
     if let Err(_) = text.push(b'\n') {
         return Err(Ending::Memory);
     }
-    if let Err(_) = write_all(output, &text) {
+    if let Err(_) = write_through(output, &text) {
         return Err(Ending::Write);
     }
     Ok(())
@@ -40,8 +35,8 @@ pub(crate) fn answer_some<O: Sink, A: Answering>(
     machine: &mut A,
 ) -> Result<(), Ending>
     requires { (shelf : A.Shelf) × ((h : List A.Entry) × (A.life shelf).stands machine.old h) }
-    ensures did { (shelf : A.Shelf) (h : List A.Entry) → (A.life shelf).stands machine.old h → Did (A.meaning shelf) (A.life shelf) O.tells O.taken machine.old machine.new output.old output.new h (unless_empty longest line.now) result }
-    ensures causes { Causes (A.faults machine.old) (A.faults machine.new) (O.faults output.old) (O.faults output.new) result }
+    ensures did { (shelf : A.Shelf) (h : List A.Entry) → (A.life shelf).stands machine.old h → Did (A.meaning shelf) (A.life shelf) O.sink machine.old machine.new output.old output.new h (unless_empty longest line.now) result }
+    ensures causes { Causes (A.faults machine.old) (A.faults machine.new) (O.sink.faults output.old) (O.sink.faults output.new) result }
 {
     if line.is_empty() {
         return Ok(());
@@ -62,8 +57,8 @@ pub(crate) fn answer_piece<O: Sink, A: Answering>(
     ensures short { OnOk result (length line.new.items ≤ longest + 2) }
     ensures open { (begun : List ℕ) → line.old.items ≡ take (longest + 2) begun → OnOk result (line.new.items ≡ take (longest + 2) (open_from begun piece.now)) }
     ensures did { (shelf : A.Shelf) (h : List A.Entry) (begun : List ℕ) → (A.life shelf).stands machine.old h → line.old.items ≡ take (longest + 2) begun
-        → Did (A.meaning shelf) (A.life shelf) O.tells O.taken machine.old machine.new output.old output.new h (ended_from longest begun piece.now) result }
-    ensures causes { Causes (A.faults machine.old) (A.faults machine.new) (O.faults output.old) (O.faults output.new) result }
+        → Did (A.meaning shelf) (A.life shelf) O.sink machine.old machine.new output.old output.new h (ended_from longest begun piece.now) result }
+    ensures causes { Causes (A.faults machine.old) (A.faults machine.new) (O.sink.faults output.old) (O.sink.faults output.new) result }
 {
     let mut rest = piece;
     while let Some(count) = line_feed(rest) {

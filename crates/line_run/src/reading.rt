@@ -2,7 +2,8 @@
 ghost use Rattle.std.specs.Prelude.{◌≡◌, ◌≤◌, ◌<◌, ◌+◌, ◌^◌, ◌++◌, [], ℕ, List, length, take, IfOk, OnErr, OnOk};
 ghost use Rattle.news_io.specs.Faults.{Counts};
 ghost use Rattle.input_lines.specs.Lines.{ended, lines, open_from};
-ghost use Rattle.line_run.specs.Run.{Ran, ReadsTo, Ends};
+ghost use Rattle.line_run.specs.Life.{AllPassed};
+ghost use Rattle.line_run.specs.Run.{Ran, ReadsTo, Ends, NotByOutput};
 
 use crate::loops::{answer_piece, answer_some};
 use crate::{Answering, Ending};
@@ -15,11 +16,11 @@ const PIECE: usize = 65536;
 fn read_piece<S: Source>(input: &mut S, piece: &mut [u8], left: u64) -> Result<usize, Failed>
     requires left { left < 2 ^ 63 }
     ensures within { IfOk result (λ n. (n ≤ length piece.old) × (n ≤ left + 1)) }
-    ensures bytes { S.tells input.old → IfOk result (λ n. S.ahead input.old ≡ take n piece.new ++ S.ahead input.new) }
-    ensures end { S.tells input.old → 0 < length piece.old → IfOk result (λ n. n ≡ 0 → S.ahead input.old ≡ []) }
-    ensures err { S.tells input.old → OnErr result (S.ahead input.new ≡ S.ahead input.old) }
-    ensures told { S.tells input.old → S.tells input.new }
-    ensures count { Counts (S.faults input.old) (S.faults input.new) result }
+    ensures bytes { S.source.tells input.old → IfOk result (λ n. S.source.ahead input.old ≡ take n piece.new ++ S.source.ahead input.new) }
+    ensures end { S.source.tells input.old → 0 < length piece.old → IfOk result (λ n. n ≡ 0 → S.source.ahead input.old ≡ []) }
+    ensures err { S.source.tells input.old → OnErr result (S.source.ahead input.new ≡ S.source.ahead input.old) }
+    ensures told { S.source.tells input.old → S.source.tells input.new }
+    ensures count { Counts (S.source.faults input.old) (S.source.faults input.new) result }
 {
     let room = (piece.len() as u64).min(left + 1) as usize;
     let count = input.read(&mut piece[..room])?;
@@ -40,14 +41,11 @@ fn answer_ended<S: Source, O: Sink, A: Answering>(
     requires most { most < 2 ^ 63 }
     requires room { 0 < length piece.old }
     requires line { line.old.items ≡ [] }
-    ensures reads { (shelf : A.Shelf) (h : List A.Entry) → (A.life shelf).stands machine.old h → ReadsTo (A.meaning shelf) (A.life shelf) S.tells S.ahead O.tells O.taken (ended longest) (lines longest) most (λ read. line.new.items ≡ take (longest + 2) (open_from [] read)) input.old input.new machine.old machine.new output.old output.new h result }
-    ensures ends { Ends (S.faults input.old) (S.faults input.new) (A.faults machine.old) (A.faults machine.new) (O.faults output.old) (O.faults output.new) result }
+    ensures reads { (shelf : A.Shelf) (h : List A.Entry) → (A.life shelf).stands machine.old h → ReadsTo (A.meaning shelf) (A.life shelf) S.source O.sink (ended longest) (lines longest) most (λ read. line.new.items ≡ take (longest + 2) (open_from [] read)) input.old input.new machine.old machine.new output.old output.new h result }
+    ensures ends { Ends (S.source.faults input.old) (S.source.faults input.new) (A.faults machine.old) (A.faults machine.new) (O.sink.faults output.old) (O.sink.faults output.new) result }
 {
     let mut left = most;
     'pieces: loop {
-        if let Err(_) = output.flush() {
-            return Err(Ending::Write);
-        }
         let Ok(count) = read_piece(input, piece, left) else {
             return Err(Ending::Read);
         };
@@ -79,7 +77,8 @@ fn empty_piece(alloc: Global) -> Result<Vec<u8>, AllocError>
     vec![in alloc; 0; PIECE]
 }
 
-/// Answers the lines of the input, in order.
+/// Answers the lines of the input, in order. Each answer passes on before the next line is looked at, and what was
+/// written before passes on before the first.
 pub fn answer_lines<S: Source, O: Sink, A: Answering>(
     alloc: Global,
     input: &mut S,
@@ -90,9 +89,13 @@ pub fn answer_lines<S: Source, O: Sink, A: Answering>(
 ) -> Result<(), Ending>
     requires stands { (shelf : A.Shelf) × ((h : List A.Entry) × (A.life shelf).stands machine.old h) }
     requires most { most < 2 ^ 63 }
-    ensures ran { (shelf : A.Shelf) (h : List A.Entry) → (A.life shelf).stands machine.old h → Ran (A.meaning shelf) (A.life shelf) S.tells S.ahead O.tells O.taken (ended longest) (lines longest) most input.old input.new machine.old machine.new output.old output.new h result }
-    ensures ends { Ends (S.faults input.old) (S.faults input.new) (A.faults machine.old) (A.faults machine.new) (O.faults output.old) (O.faults output.new) result }
+    ensures passed { O.sink.tells output.old → NotByOutput result → AllPassed O.sink output.new }
+    ensures ran { (shelf : A.Shelf) (h : List A.Entry) → (A.life shelf).stands machine.old h → Ran (A.meaning shelf) (A.life shelf) S.source O.sink (ended longest) (lines longest) most input.old input.new machine.old machine.new output.old output.new h result }
+    ensures ends { Ends (S.source.faults input.old) (S.source.faults input.new) (A.faults machine.old) (A.faults machine.new) (O.sink.faults output.old) (O.sink.faults output.new) result }
 {
+    if let Err(_) = output.flush() {
+        return Err(Ending::Write);
+    }
     let Ok(mut piece) = empty_piece(alloc) else {
         return Err(Ending::Memory);
     };
@@ -102,9 +105,6 @@ pub fn answer_lines<S: Source, O: Sink, A: Answering>(
     }
     if let Err(why) = answer_some(&line, longest, output, machine) {
         return Err(why);
-    }
-    if let Err(_) = output.flush() {
-        return Err(Ending::Write);
     }
     Ok(())
 }

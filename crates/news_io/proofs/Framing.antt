@@ -18,8 +18,8 @@ payload_of-framed p =
     ∙ ap (λ (l : List ℕ). take (5 + length p - 5) l) (drop_at (to_be_bytes w32 (length p)) (p ++ 0 ∷ []) 4 (length-be (length p)))
     ∙ take_at p (0 ∷ []) (5 + length p - 5) (omega arith)
 
-pub is_framed : (p : List ℕ) → length p ≤ 2097152 → IsFramed (framed p)
+pub is_framed : (p : List ℕ) → length p ≤ 4194304 → IsFramed (framed p)
 is_framed p le = record {
   is = ap (λ (l : List ℕ). framed l) (sym (payload_of-framed p));
-  fits = subst (λ (l : List ℕ). length l ≤ 2097152) (sym (payload_of-framed p)) le;
+  fits = subst (λ (l : List ℕ). length l ≤ 4194304) (sym (payload_of-framed p)) le;
 }

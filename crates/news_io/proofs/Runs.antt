@@ -1,6 +1,7 @@
 -- How a run of calls goes on.
-use Rattle.std.proofs.Common.{inl, inr, ⊎_elim, ℕ, arith}
-use Rattle.news_io.specs.Moments.{Elapses, LeavesOnly}
+use Rattle.std.proofs.Common.{inl, inr, ⊎_elim, ℕ, List, arith}
+use Rattle.news_io.specs.Disk.{DiskMeaning, LeavesOnly}
+use Rattle.news_io.specs.Moments.{Elapses}
 
 pub elapses_same : {C : Type 0} (a : ℕ) (past : ℕ → C → Type 0) (P : C → Type 0) → Elapses a a past past P
 elapses_same a past P = record { later = omega arith; nothing_else = λ t c le left. inl left; keeps = λ t c le left. left }
@@ -19,25 +20,24 @@ elapses_then a b d past mid since R e f = record {
   keeps = λ t c le left. f.keeps t c (omega (arith, le, e.later)) (e.keeps t c le left);
 }
 
-module _ {D C : Type 0} (moment : D → ℕ) (left_since : D → ℕ → C → Type 0) where
+module _ {D : Type 0} (disk : DiskMeaning D) where
   -- before the first call
-  pub started : (old : D) (P : C → Type 0) → ((c : C) → left_since old (moment old) c → P c) → LeavesOnly moment left_since old old P
+  pub started : (old : D) (P : List ℕ → Type 0) → ((c : List ℕ) → disk.left_since old (disk.moment old) c → P c) → LeavesOnly disk old old P
   started old P here = record { later = omega arith; each = here; before = λ t c le left. inl left }
 
   -- one call more
-  pub goes_on : (old mid new : D) (P Q R : C → Type 0) → LeavesOnly moment left_since old mid P → Elapses (moment mid) (moment new) (left_since mid) (left_since new) Q
-      → ((c : C) → P c → R c) → ((c : C) → Q c → R c) → LeavesOnly moment left_since old new R
+  pub goes_on : (old mid new : D) (P Q R : List ℕ → Type 0) → LeavesOnly disk old mid P → Elapses (disk.moment mid) (disk.moment new) (disk.left_since mid) (disk.left_since new) Q
+      → ((c : List ℕ) → P c → R c) → ((c : List ℕ) → Q c → R c) → LeavesOnly disk old new R
   goes_on old mid new P Q R so_far time was here = record {
     later = omega (arith, so_far.later, time.later);
-    each = λ c left. ⊎_elim (λ past. was c (so_far.each c past)) (λ now. here c now) (time.nothing_else (moment old) c so_far.later left);
+    each = λ c left. ⊎_elim (λ past. was c (so_far.each c past)) (λ now. here c now) (time.nothing_else (disk.moment old) c so_far.later left);
     before = λ t c le left. ⊎_elim (λ past. ⊎_elim (λ earlier. inl earlier) (λ p. inr (was c p)) (so_far.before t c le past)) (λ now. inr (here c now)) (time.nothing_else t c (omega (arith, le, so_far.later)) left);
   }
 
-module _ {D C : Type 0} (moment : D → ℕ) (left_since : D → ℕ → C → Type 0) where
   -- one run more
-  pub goes_on_run : (old mid new : D) (P Q R : C → Type 0) → LeavesOnly moment left_since old mid P → LeavesOnly moment left_since mid new Q → ((c : C) → P c → R c) → ((c : C) → Q c → R c) → LeavesOnly moment left_since old new R
+  pub goes_on_run : (old mid new : D) (P Q R : List ℕ → Type 0) → LeavesOnly disk old mid P → LeavesOnly disk mid new Q → ((c : List ℕ) → P c → R c) → ((c : List ℕ) → Q c → R c) → LeavesOnly disk old new R
   goes_on_run old mid new P Q R so_far more was here = record {
     later = omega (arith, so_far.later, more.later);
-    each = λ c left. ⊎_elim (λ past. was c (so_far.each c past)) (λ now. here c now) (more.before (moment old) c so_far.later left);
+    each = λ c left. ⊎_elim (λ past. was c (so_far.each c past)) (λ now. here c now) (more.before (disk.moment old) c so_far.later left);
     before = λ t c le left. ⊎_elim (λ past. ⊎_elim (λ earlier. inl earlier) (λ p. inr (was c p)) (so_far.before t c le past)) (λ now. inr (here c now)) (more.before t c (omega (arith, le, so_far.later)) left);
   }

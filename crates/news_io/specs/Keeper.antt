@@ -4,6 +4,7 @@ use Rattle.std.specs.Int.{w32, to_be_bytes}
 use Rattle.news_io.specs.declared.keeper.AppendFault.{AppendFault}
 use Rattle.news_io.specs.declared.keeper.AppendFault.TheVariants.{Fault, Full}
 use Rattle.news_io.specs.Faults.{Rose}
+use Rattle.news_io.specs.Moments.{Elapses}
 
 -- four bytes of length, the payload, and a closed gate
 abbrev pub framed : List ℕ → List ℕ
@@ -12,10 +13,10 @@ framed payload = to_be_bytes w32 (length payload) ++ payload ++ 0 ∷ []
 abbrev pub payload_of : List ℕ → List ℕ
 payload_of bytes = take (length bytes - 5) (drop 4 bytes)
 
--- the frame of a payload, which may be empty and has at most 2 MiB
+-- the frame of a payload, which may be empty and has at most 4 MiB
 pub record IsFramed (bytes : List ℕ) : Type 0 where
   pub is : bytes ≡ framed (payload_of bytes)
-  pub fits : length (payload_of bytes) ≤ 2097152
+  pub fits : length (payload_of bytes) ≤ 4194304
 
 -- Full is answered exactly where the record would pass the limit, with the bytes in use and the payload's length.
 abbrev pub IsFullExactly : ℕ → ℕ → List ℕ → Result (Unit {0}) AppendFault → Type 0
@@ -55,3 +56,30 @@ Leaves list doubts opened = (opened ≡ Some list) ⊎ ((x : List ℕ) × doubts
 -- what a crash during a call may leave: what it could leave before the call, or what it can leave after it
 abbrev pub BeforeOrAfter : List (List ℕ) → (List ℕ → Type 0) → List (List ℕ) → (List ℕ → Type 0) → Option (List (List ℕ)) → Type 0
 BeforeOrAfter list doubts list' doubts' opened = Leaves list doubts opened ⊎ Leaves list' doubts' opened
+
+-- what a keeper means
+pub record KeeperMeaning (K : Type 0) : Type 1 where
+  -- how often its device has failed; a counter of 64 bits stays at its last value
+  pub faults : K → ℕ
+  -- how many device calls were made; it may count fewer, and never more
+  pub calls : K → ℕ
+  -- the most device calls that the next append makes
+  pub most_calls : K → ℕ
+  -- the bytes in use
+  pub used : K → ℕ
+  -- holds of a keeper that tells its list
+  pub tells : K → Type 0
+  -- the payloads that are kept
+  pub list : K → List (List ℕ)
+  -- a payload that a crash may leave at the list's end
+  pub doubts : K → List ℕ → Type 0
+  -- the moment, as a number that never falls
+  pub moment : K → ℕ
+  -- what opening after a crash at some moment from that one on might have found: a list, or none
+  pub left_since : K → ℕ → Option (List (List ℕ)) → Type 0
+  -- a crash now leaves the list, or the list with one payload in doubt at its end
+  pub leaves_now : (k : K) (opened : Option (List (List ℕ))) → tells k → left_since k (moment k) opened → Leaves (list k) (doubts k) opened
+
+-- over a call, what a crash since an earlier moment might leave gains only what has P
+abbrev pub KeeperGains : {K : Type 0} → KeeperMeaning K → K → K → (Option (List (List ℕ)) → Type 0) → Type 0
+KeeperGains keeper old new P = Elapses (keeper.moment old) (keeper.moment new) (keeper.left_since old) (keeper.left_since new) P

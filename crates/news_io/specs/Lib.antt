@@ -1,5 +1,6 @@
 pub mod Calls
 pub mod Clock
+pub mod Devices
 pub mod Disk
 pub mod Faults
 pub mod Keeper
@@ -8,3 +9,5 @@ pub mod Left
 pub mod Link
 pub mod Moments
 pub mod Replay
+pub mod Sink
+pub mod Source

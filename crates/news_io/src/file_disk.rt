@@ -1,5 +1,5 @@
 //! A file of the system as a disk.
-ghost use Rattle.std.specs.Prelude.{◌≡◌, ◌≤◌, [], ℕ, length, IfOk};
+ghost use Rattle.std.specs.Prelude.{◌≡◌, ◌≤◌, ℕ, length, IfOk};
 
 use crate::{Disk, Failed, Faults};
 use std::fs::{File, Files, OpenOptions};
@@ -90,9 +90,11 @@ impl<R: Files<File = File>> LateFile<R> {
 }
 
 impl<R: Files<File = File> + Drop> FileDisk<R> {
+    ghost use Rattle.news_io.specs.Devices.{file_disk};
+
     /// A disk over the file at this path. Nothing is opened yet.
     pub fn new(rt: R, path: String) -> FileDisk<R>
-        ensures { ⟦<FileDisk<R> as Disk>⟧.faults result ≡ 0 }
+        ensures { file_disk.faults result ≡ 0 }
     {
         FileDisk {
             file: LateFile {
@@ -107,34 +109,16 @@ impl<R: Files<File = File> + Drop> FileDisk<R> {
 
     /// How many of its calls failed.
     pub fn fault_count(&self) -> u64
-        ensures { result ≡ ⟦<FileDisk<R> as Disk>⟧.faults self.now }
+        ensures { result ≡ file_disk.faults self.now }
     {
         self.faults.count()
     }
 }
 
 impl<R: Files<File = File> + Drop> Disk for FileDisk<R> {
-    ghost faults = { λ d. d.faults };
+    ghost use Rattle.news_io.specs.Devices.{file_disk};
 
-    ghost calls = { λ d. 0 };
-
-    ghost tells = { λ d. ⊥ };
-
-    ghost seen = { λ d. [] };
-
-    ghost may_leave = { λ d c. Unit {0} };
-
-    ghost moment = { λ d. 0 };
-
-    ghost left_since = { λ d t c. Unit {0} };
-
-    ghost counts_now = { λ d t c le now. tt };
-
-    ghost leaves_seen = { λ d tells. tt };
-
-    ghost no_longer = { λ d c tells left. absurd tells };
-
-    ghost only_now = { λ d c left. tt };
+    ghost disk = { file_disk };
 
     fn size(&mut self) -> Result<u64, Failed> {
         self.faults.counted(self.file.size())

@@ -35,7 +35,7 @@ pub use memory_keeper::MemoryKeeper;
 pub use memory_sink::MemorySink;
 pub use memory_source::MemorySource;
 pub use record::Record;
-pub use sink::{Sink, write_all};
+pub use sink::{Sink, write_all, write_through};
 pub use source::Source;
 pub use std_clock::StdClock;
 pub use std_sink::StdSink;

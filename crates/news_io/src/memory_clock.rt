@@ -13,20 +13,22 @@ pub struct MemoryClock {
 }
 
 impl MemoryClock {
+    ghost use Rattle.news_io.specs.Devices.{memory_clock};
+
     /// A clock with these readings, of which there is one at least.
     pub fn new(readings: Vec<u64>) -> MemoryClock
         requires { 0 < length readings.items }
-        ensures tells { ⟦<MemoryClock as Clock>⟧.tells result }
-        ensures ahead { (k : ℕ) → ⟦<MemoryClock as Clock>⟧.ahead result k ≡ shown readings.items 0 k }
+        ensures tells { memory_clock.tells result }
+        ensures ahead { (k : ℕ) → memory_clock.ahead result k ≡ shown readings.items 0 k }
     {
         MemoryClock { readings, at: 0 }
     }
 }
 
 impl Clock for MemoryClock {
-    ghost tells = { λ m. Unit {0} };
+    ghost use Rattle.news_io.specs.Devices.{memory_clock};
 
-    ghost ahead = { λ m k. shown m.readings.items m.at k };
+    ghost clock = { memory_clock };
 
     fn now(&mut self) -> u64 {
         let reading = self.readings[self.at];

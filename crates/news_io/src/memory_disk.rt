@@ -1,7 +1,7 @@
 //! A disk in memory, of which a crash may tear each write since the last sync.
 ghost use Rattle.std.specs.Prelude.{◌≡◌, ◌≤◌, ◌<◌, ◌+◌, ◌-◌, ◌++◌, ◌^◌, [], ◌∷◌, List, ℕ, length, take, max, IfOk, OnOk, OnErr};
 ghost use Rattle.news_io.specs.Disk.{Holds, Torn, Only};
-ghost use Rattle.news_io.specs.Replay.{StepsTo, may_hold, left_from, only_last, counts_last, Tells};
+ghost use Rattle.news_io.specs.Replay.{StepsTo};
 
 use crate::script::Script;
 use crate::{Disk, Failed};
@@ -113,12 +113,14 @@ fn torn_piece(
 }
 
 impl MemoryDisk {
+    ghost use Rattle.news_io.specs.Devices.{memory_disk};
+
     /// An empty disk.
     pub fn new(alloc: Global) -> MemoryDisk
-        ensures seen { ⟦<MemoryDisk as Disk>⟧.seen result ≡ [] }
-        ensures tells { ⟦<MemoryDisk as Disk>⟧.tells result }
-        ensures kept { Only [] (⟦<MemoryDisk as Disk>⟧.may_leave result) }
-        ensures faults { ⟦<MemoryDisk as Disk>⟧.faults result ≡ 0 }
+        ensures seen { memory_disk.seen result ≡ [] }
+        ensures tells { memory_disk.tells result }
+        ensures kept { Only [] (memory_disk.may_leave result) }
+        ensures faults { memory_disk.faults result ≡ 0 }
     {
         MemoryDisk {
             alloc,
@@ -131,10 +133,10 @@ impl MemoryDisk {
 
     /// A disk with these bytes, all of which a crash leaves.
     pub fn holding(alloc: Global, bytes: &[u8]) -> Result<MemoryDisk, Memory>
-        ensures seen { IfOk result (λ disk. ⟦<MemoryDisk as Disk>⟧.seen disk ≡ bytes.now) }
-        ensures tells { IfOk result ⟦<MemoryDisk as Disk>⟧.tells }
-        ensures kept { IfOk result (λ disk. Only bytes.now (⟦<MemoryDisk as Disk>⟧.may_leave disk)) }
-        ensures faults { IfOk result (λ disk. ⟦<MemoryDisk as Disk>⟧.faults disk ≡ 0) }
+        ensures seen { IfOk result (λ disk. memory_disk.seen disk ≡ bytes.now) }
+        ensures tells { IfOk result memory_disk.tells }
+        ensures kept { IfOk result (λ disk. Only bytes.now (memory_disk.may_leave disk)) }
+        ensures faults { IfOk result (λ disk. memory_disk.faults disk ≡ 0) }
     {
         Ok(MemoryDisk {
             alloc,
@@ -147,10 +149,10 @@ impl MemoryDisk {
 
     /// The same disk, whose calls with these numbers are to fail, numbered from 1 from here on.
     pub fn failing_at(mut self, calls: Vec<u64>) -> MemoryDisk
-        ensures seen { ⟦<MemoryDisk as Disk>⟧.seen result ≡ ⟦<MemoryDisk as Disk>⟧.seen self }
-        ensures tells { ⟦<MemoryDisk as Disk>⟧.tells self → ⟦<MemoryDisk as Disk>⟧.tells result }
-        ensures kept { (c : List ℕ) → ⟦<MemoryDisk as Disk>⟧.may_leave result c → ⟦<MemoryDisk as Disk>⟧.may_leave self c }
-        ensures faults { ⟦<MemoryDisk as Disk>⟧.faults result ≡ 0 }
+        ensures seen { memory_disk.seen result ≡ memory_disk.seen self }
+        ensures tells { memory_disk.tells self → memory_disk.tells result }
+        ensures kept { (c : List ℕ) → memory_disk.may_leave result c → memory_disk.may_leave self c }
+        ensures faults { memory_disk.faults result ≡ 0 }
     {
         self.script = Script::failing_at(calls);
         self
@@ -158,10 +160,10 @@ impl MemoryDisk {
 
     /// The same disk, which does so many calls more and fails each later one.
     pub fn stopped_after(mut self, calls: u64) -> MemoryDisk
-        ensures seen { ⟦<MemoryDisk as Disk>⟧.seen result ≡ ⟦<MemoryDisk as Disk>⟧.seen self }
-        ensures tells { ⟦<MemoryDisk as Disk>⟧.tells self → ⟦<MemoryDisk as Disk>⟧.tells result }
-        ensures kept { (c : List ℕ) → ⟦<MemoryDisk as Disk>⟧.may_leave result c → ⟦<MemoryDisk as Disk>⟧.may_leave self c }
-        ensures faults { ⟦<MemoryDisk as Disk>⟧.faults result ≡ 0 }
+        ensures seen { memory_disk.seen result ≡ memory_disk.seen self }
+        ensures tells { memory_disk.tells self → memory_disk.tells result }
+        ensures kept { (c : List ℕ) → memory_disk.may_leave result c → memory_disk.may_leave self c }
+        ensures faults { memory_disk.faults result ≡ 0 }
     {
         self.script = Script::stopped_after(calls, Vec::new(self.alloc));
         self
@@ -169,7 +171,7 @@ impl MemoryDisk {
 
     /// What a crash now may leave, where it tears so.
     pub fn after_crash(&self, tear: Tear) -> Result<Vec<u8>, Memory>
-        ensures left { IfOk result (λ image. ⟦<MemoryDisk as Disk>⟧.may_leave self.now image.items) }
+        ensures left { IfOk result (λ image. memory_disk.may_leave self.now image.items) }
     {
         let mut image = copy_of(self.alloc, &self.first)?;
         for event in &self.events {
@@ -197,48 +199,30 @@ impl MemoryDisk {
 
     /// The bytes that a read gives.
     pub fn as_bytes(&self) -> &[u8]
-        ensures { result.now ≡ ⟦<MemoryDisk as Disk>⟧.seen self.now }
+        ensures { result.now ≡ memory_disk.seen self.now }
     {
         self.bytes.as_slice()
     }
 
     /// How many of its calls failed.
     pub fn fault_count(&self) -> u64
-        ensures { result ≡ ⟦<MemoryDisk as Disk>⟧.faults self.now }
+        ensures { result ≡ memory_disk.faults self.now }
     {
         self.script.faults.count()
     }
 
     /// How many calls were made of it.
     pub fn call_count(&self) -> u64
-        ensures { result ≡ ⟦<MemoryDisk as Disk>⟧.calls self.now }
+        ensures { result ≡ memory_disk.calls self.now }
     {
         self.script.calls
     }
 }
 
 impl Disk for MemoryDisk {
-    ghost faults = { λ m. m.script.faults };
+    ghost use Rattle.news_io.specs.Devices.{memory_disk};
 
-    ghost calls = { λ m. m.script.calls };
-
-    ghost tells = { λ m. Tells m.first.items m.events.items m.bytes.items };
-
-    ghost seen = { λ m. m.bytes.items };
-
-    ghost may_leave = { λ m c. may_hold (λ (d : List ℕ). d ≡ m.first.items) m.events.items c };
-
-    ghost moment = { λ m. length m.events.items };
-
-    ghost left_since = { λ m t c. left_from m.first.items m.events.items t c };
-
-    ghost counts_now = { λ m t c le now. counts_last m.first.items m.events.items t c le now };
-
-    ghost leaves_seen = { λ m tells. tells.holds };
-
-    ghost no_longer = { λ m c tells left. tells.no_longer c left };
-
-    ghost only_now = { λ m c left. only_last m.first.items m.events.items c left };
+    ghost disk = { memory_disk };
 
     fn size(&mut self) -> Result<u64, Failed> {
         self.script.begin()?;

@@ -1,6 +1,5 @@
 //! A keeper in memory, which never leaves a payload in doubt.
 ghost use Rattle.std.specs.Prelude.{◌≡◌, ◌++◌, [], ◌∷◌, length, OnOk, OnErr};
-ghost use Rattle.news_io.specs.Kept.{kept_from, only_kept};
 
 use crate::script::Script;
 use crate::{AppendFault, Keeper};
@@ -26,22 +25,24 @@ fn add(records: &mut Vec<Bytes>, payload: Bytes) -> Result<(), Memory>
 }
 
 impl MemoryKeeper {
+    ghost use Rattle.news_io.specs.Devices.{memory_keeper};
+
     /// No record, and 65 bytes in use, as a log has them behind its header.
     pub fn new(alloc: Global) -> MemoryKeeper
-        ensures tells { ⟦<MemoryKeeper as Keeper>⟧.tells result }
-        ensures list { ⟦<MemoryKeeper as Keeper>⟧.list result ≡ [] }
-        ensures used { ⟦<MemoryKeeper as Keeper>⟧.used result ≡ 65 }
-        ensures faults { ⟦<MemoryKeeper as Keeper>⟧.faults result ≡ 0 }
+        ensures tells { memory_keeper.tells result }
+        ensures list { memory_keeper.list result ≡ [] }
+        ensures used { memory_keeper.used result ≡ 65 }
+        ensures faults { memory_keeper.faults result ≡ 0 }
     {
         MemoryKeeper::starting_at(alloc, 65)
     }
 
     /// No record, and so many bytes in use.
     pub fn starting_at(alloc: Global, size: u64) -> MemoryKeeper
-        ensures tells { ⟦<MemoryKeeper as Keeper>⟧.tells result }
-        ensures list { ⟦<MemoryKeeper as Keeper>⟧.list result ≡ [] }
-        ensures used { ⟦<MemoryKeeper as Keeper>⟧.used result ≡ size }
-        ensures faults { ⟦<MemoryKeeper as Keeper>⟧.faults result ≡ 0 }
+        ensures tells { memory_keeper.tells result }
+        ensures list { memory_keeper.list result ≡ [] }
+        ensures used { memory_keeper.used result ≡ size }
+        ensures faults { memory_keeper.faults result ≡ 0 }
     {
         MemoryKeeper {
             alloc,
@@ -53,10 +54,10 @@ impl MemoryKeeper {
 
     /// The same, and its appends with these numbers are to fail: those from here on that are not full, numbered from 1.
     pub fn failing_at(mut self, calls: Vec<u64>) -> MemoryKeeper
-        ensures tells { ⟦<MemoryKeeper as Keeper>⟧.tells result }
-        ensures list { ⟦<MemoryKeeper as Keeper>⟧.list result ≡ ⟦<MemoryKeeper as Keeper>⟧.list self }
-        ensures used { ⟦<MemoryKeeper as Keeper>⟧.used result ≡ ⟦<MemoryKeeper as Keeper>⟧.used self }
-        ensures faults { ⟦<MemoryKeeper as Keeper>⟧.faults result ≡ 0 }
+        ensures tells { memory_keeper.tells result }
+        ensures list { memory_keeper.list result ≡ memory_keeper.list self }
+        ensures used { memory_keeper.used result ≡ memory_keeper.used self }
+        ensures faults { memory_keeper.faults result ≡ 0 }
     {
         self.script = Script::failing_at(calls);
         self
@@ -64,46 +65,30 @@ impl MemoryKeeper {
 
     /// The payloads that it keeps.
     pub fn records(&self) -> &[Bytes]
-        ensures { result.now ≡ ⟦<MemoryKeeper as Keeper>⟧.list self.now }
+        ensures { result.now ≡ memory_keeper.list self.now }
     {
         self.records.as_slice()
     }
 
     /// How many of its calls failed.
     pub fn fault_count(&self) -> u64
-        ensures { result ≡ ⟦<MemoryKeeper as Keeper>⟧.faults self.now }
+        ensures { result ≡ memory_keeper.faults self.now }
     {
         self.script.faults.count()
     }
 
     /// How many appends were made of it that were not full.
     pub fn call_count(&self) -> u64
-        ensures { result ≡ ⟦<MemoryKeeper as Keeper>⟧.calls self.now }
+        ensures { result ≡ memory_keeper.calls self.now }
     {
         self.script.calls
     }
 }
 
 impl Keeper for MemoryKeeper {
-    ghost faults = { λ k. k.script.faults };
+    ghost use Rattle.news_io.specs.Devices.{memory_keeper};
 
-    ghost calls = { λ k. k.script.calls };
-
-    ghost most_calls = { λ k. 1 };
-
-    ghost used = { λ k. k.used };
-
-    ghost tells = { λ k. Unit {0} };
-
-    ghost list = { λ k. k.records.items };
-
-    ghost doubts = { λ k x. ⊥ };
-
-    ghost moment = { λ k. length k.records.items };
-
-    ghost left_since = { λ k t found. kept_from k.records.items t found };
-
-    ghost leaves_now = { λ k found tells left. only_kept k.records.items found left };
+    ghost keeper = { memory_keeper };
 
     fn size(&self) -> u64 {
         self.used

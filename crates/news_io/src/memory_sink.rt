@@ -1,18 +1,22 @@
 //! A sink in memory.
-ghost use Rattle.std.specs.Prelude.{◌≡◌, ◌<◌, ◌++◌, [], OnOk, OnErr};
+ghost use Rattle.std.specs.Prelude.{◌≡◌, ◌<◌, ◌≤◌, ◌++◌, [], length, OnOk, OnErr};
 
 use crate::script::Script;
 use crate::{Failed, Sink};
 use news_types::Memory;
 use std::alloc::Global;
 
-/// The bytes that were written, in memory. A write for which there is no memory is a fault.
+/// The bytes that were written, in memory, and how many of them a flush has passed on. A write for which there is no
+/// memory is a fault.
 #[derive(Drop)]
 pub struct MemorySink {
     bytes: Vec<u8>,
+    /// How many of the bytes have passed on.
+    mark: usize,
     most: usize,
     script: Script,
     ghost some: { 0 < most },
+    ghost within: { mark ≤ length bytes.items },
 }
 
 /// Adds these bytes, or leaves the list as it was.
@@ -25,14 +29,18 @@ fn put(bytes: &mut Vec<u8>, from: &[u8]) -> Result<(), Memory>
 }
 
 impl MemorySink {
+    ghost use Rattle.news_io.specs.Devices.{memory_sink};
+
     /// An empty sink, which takes all that it is given.
     pub fn new(alloc: Global) -> MemorySink
-        ensures tells { ⟦<MemorySink as Sink>⟧.tells result }
-        ensures taken { ⟦<MemorySink as Sink>⟧.taken result ≡ [] }
-        ensures faults { ⟦<MemorySink as Sink>⟧.faults result ≡ 0 }
+        ensures tells { memory_sink.tells result }
+        ensures taken { memory_sink.taken result ≡ [] }
+        ensures passed { memory_sink.passed result ≡ [] }
+        ensures faults { memory_sink.faults result ≡ 0 }
     {
         MemorySink {
             bytes: Vec::new(alloc),
+            mark: 0,
             most: usize::MAX,
             script: Script::failing_at(Vec::new(alloc)),
         }
@@ -41,9 +49,10 @@ impl MemorySink {
     /// The same sink, which takes at most so many bytes in a call.
     pub fn in_pieces_of(mut self, most: usize) -> MemorySink
         requires { 0 < most }
-        ensures tells { ⟦<MemorySink as Sink>⟧.tells result }
-        ensures taken { ⟦<MemorySink as Sink>⟧.taken result ≡ ⟦<MemorySink as Sink>⟧.taken self }
-        ensures faults { ⟦<MemorySink as Sink>⟧.faults result ≡ ⟦<MemorySink as Sink>⟧.faults self }
+        ensures tells { memory_sink.tells result }
+        ensures taken { memory_sink.taken result ≡ memory_sink.taken self }
+        ensures passed { memory_sink.passed result ≡ memory_sink.passed self }
+        ensures faults { memory_sink.faults result ≡ memory_sink.faults self }
     {
         self.most = most;
         self
@@ -51,9 +60,10 @@ impl MemorySink {
 
     /// The same sink, whose calls with these numbers are to fail, numbered from 1 from here on: writes and flushes.
     pub fn failing_at(mut self, calls: Vec<u64>) -> MemorySink
-        ensures tells { ⟦<MemorySink as Sink>⟧.tells result }
-        ensures taken { ⟦<MemorySink as Sink>⟧.taken result ≡ ⟦<MemorySink as Sink>⟧.taken self }
-        ensures faults { ⟦<MemorySink as Sink>⟧.faults result ≡ 0 }
+        ensures tells { memory_sink.tells result }
+        ensures taken { memory_sink.taken result ≡ memory_sink.taken self }
+        ensures passed { memory_sink.passed result ≡ memory_sink.passed self }
+        ensures faults { memory_sink.faults result ≡ 0 }
     {
         self.script = Script::failing_at(calls);
         self
@@ -61,25 +71,30 @@ impl MemorySink {
 
     /// The bytes that it took.
     pub fn as_bytes(&self) -> &[u8]
-        ensures { result.now ≡ ⟦<MemorySink as Sink>⟧.taken self.now }
+        ensures { result.now ≡ memory_sink.taken self.now }
     {
         self.bytes.as_slice()
     }
 
+    /// Those of them that have passed on.
+    pub fn passed(&self) -> &[u8]
+        ensures { result.now ≡ memory_sink.passed self.now }
+    {
+        &self.bytes.as_slice()[..self.mark]
+    }
+
     /// How many of its calls failed.
     pub fn fault_count(&self) -> u64
-        ensures { result ≡ ⟦<MemorySink as Sink>⟧.faults self.now }
+        ensures { result ≡ memory_sink.faults self.now }
     {
         self.script.faults.count()
     }
 }
 
 impl Sink for MemorySink {
-    ghost faults = { λ m. m.script.faults };
+    ghost use Rattle.news_io.specs.Devices.{memory_sink};
 
-    ghost tells = { λ m. Unit {0} };
-
-    ghost taken = { λ m. m.bytes.items };
+    ghost sink = { memory_sink };
 
     fn write(&mut self, from: &[u8]) -> Result<usize, Failed> {
         self.script.begin()?;
@@ -91,6 +106,8 @@ impl Sink for MemorySink {
     }
 
     fn flush(&mut self) -> Result<(), Failed> {
-        self.script.begin()
+        self.script.begin()?;
+        self.mark = self.bytes.len();
+        Ok(())
     }
 }

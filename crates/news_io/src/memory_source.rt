@@ -1,5 +1,5 @@
 //! A source in memory.
-ghost use Rattle.std.specs.Prelude.{◌≡◌, ◌≤◌, ◌<◌, length, drop};
+ghost use Rattle.std.specs.Prelude.{◌≡◌, ◌≤◌, ◌<◌, length};
 
 use crate::script::Script;
 use crate::{Failed, Source};
@@ -16,11 +16,13 @@ pub struct MemorySource {
 }
 
 impl MemorySource {
+    ghost use Rattle.news_io.specs.Devices.{memory_source};
+
     /// A source of these bytes, which gives as many as are asked for.
     pub fn new(bytes: Vec<u8>) -> MemorySource
-        ensures tells { ⟦<MemorySource as Source>⟧.tells result }
-        ensures ahead { ⟦<MemorySource as Source>⟧.ahead result ≡ bytes.items }
-        ensures faults { ⟦<MemorySource as Source>⟧.faults result ≡ 0 }
+        ensures tells { memory_source.tells result }
+        ensures ahead { memory_source.ahead result ≡ bytes.items }
+        ensures faults { memory_source.faults result ≡ 0 }
     {
         let none = Vec::new(*bytes.allocator());
         MemorySource {
@@ -34,9 +36,9 @@ impl MemorySource {
     /// The same source, which gives at most so many bytes in a call.
     pub fn in_pieces_of(mut self, most: usize) -> MemorySource
         requires { 0 < most }
-        ensures tells { ⟦<MemorySource as Source>⟧.tells result }
-        ensures ahead { ⟦<MemorySource as Source>⟧.ahead result ≡ ⟦<MemorySource as Source>⟧.ahead self }
-        ensures faults { ⟦<MemorySource as Source>⟧.faults result ≡ ⟦<MemorySource as Source>⟧.faults self }
+        ensures tells { memory_source.tells result }
+        ensures ahead { memory_source.ahead result ≡ memory_source.ahead self }
+        ensures faults { memory_source.faults result ≡ memory_source.faults self }
     {
         self.most = most;
         self
@@ -44,9 +46,9 @@ impl MemorySource {
 
     /// The same source, whose reads with these numbers are to fail, numbered from 1 from here on.
     pub fn failing_at(mut self, calls: Vec<u64>) -> MemorySource
-        ensures tells { ⟦<MemorySource as Source>⟧.tells result }
-        ensures ahead { ⟦<MemorySource as Source>⟧.ahead result ≡ ⟦<MemorySource as Source>⟧.ahead self }
-        ensures faults { ⟦<MemorySource as Source>⟧.faults result ≡ 0 }
+        ensures tells { memory_source.tells result }
+        ensures ahead { memory_source.ahead result ≡ memory_source.ahead self }
+        ensures faults { memory_source.faults result ≡ 0 }
     {
         self.script = Script::failing_at(calls);
         self
@@ -54,25 +56,23 @@ impl MemorySource {
 
     /// The bytes that are still to come.
     pub fn remaining(&self) -> &[u8]
-        ensures { result.now ≡ ⟦<MemorySource as Source>⟧.ahead self.now }
+        ensures { result.now ≡ memory_source.ahead self.now }
     {
         &self.bytes[self.at..]
     }
 
     /// How many of its calls failed.
     pub fn fault_count(&self) -> u64
-        ensures { result ≡ ⟦<MemorySource as Source>⟧.faults self.now }
+        ensures { result ≡ memory_source.faults self.now }
     {
         self.script.faults.count()
     }
 }
 
 impl Source for MemorySource {
-    ghost faults = { λ m. m.script.faults };
+    ghost use Rattle.news_io.specs.Devices.{memory_source};
 
-    ghost tells = { λ m. Unit {0} };
-
-    ghost ahead = { λ m. drop m.at m.bytes.items };
+    ghost source = { memory_source };
 
     fn read(&mut self, into: &mut [u8]) -> Result<usize, Failed> {
         self.script.begin()?;

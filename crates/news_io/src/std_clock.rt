@@ -31,9 +31,9 @@ fn seconds(rt: &impl SystemClock) -> io::Result<u64> {
 }
 
 impl<R: SystemClock> Clock for StdClock<R> {
-    ghost tells = { λ c. ⊥ };
+    ghost use Rattle.news_io.specs.Devices.{std_clock};
 
-    ghost ahead = { λ c k. 0 };
+    ghost clock = { std_clock };
 
     /// Where the system gives no time, the last reading again.
     fn now(&mut self) -> u64 {

@@ -1,5 +1,5 @@
 //! Standard output as a sink.
-ghost use Rattle.std.specs.Prelude.{◌≡◌, [], IfOk};
+ghost use Rattle.std.specs.Prelude.{◌≡◌, IfOk};
 
 use crate::{Failed, Faults, Sink};
 use news_types::Memory;
@@ -17,9 +17,11 @@ pub struct StdSink<W: Write + Drop> {
 }
 
 impl<W: Write + Drop> StdSink<W> {
+    ghost use Rattle.news_io.specs.Devices.{std_sink};
+
     /// A sink over a writer, as `rt.stdout()`.
     pub fn new(alloc: Global, writer: W) -> Result<StdSink<W>, Memory>
-        ensures { IfOk result (λ sink. ⟦<StdSink<W> as Sink>⟧.faults sink ≡ 0) }
+        ensures { IfOk result (λ sink. std_sink.faults sink ≡ 0) }
     {
         let Ok(writer) = BufWriter::with_capacity(alloc, BUFFER, writer) else {
             return Err(Memory);
@@ -32,18 +34,16 @@ impl<W: Write + Drop> StdSink<W> {
 
     /// How many of its calls failed.
     pub fn fault_count(&self) -> u64
-        ensures { result ≡ ⟦<StdSink<W> as Sink>⟧.faults self.now }
+        ensures { result ≡ std_sink.faults self.now }
     {
         self.faults.count()
     }
 }
 
 impl<W: Write + Drop> Sink for StdSink<W> {
-    ghost faults = { λ s. s.faults };
+    ghost use Rattle.news_io.specs.Devices.{std_sink};
 
-    ghost tells = { λ s. ⊥ };
-
-    ghost taken = { λ s. [] };
+    ghost sink = { std_sink };
 
     fn write(&mut self, from: &[u8]) -> Result<usize, Failed> {
         self.faults.counted(self.writer.write_all(from))?;

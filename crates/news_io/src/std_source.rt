@@ -1,5 +1,5 @@
 //! Standard input as a source.
-ghost use Rattle.std.specs.Prelude.{◌≡◌, ◌≤◌, [], length, IfOk};
+ghost use Rattle.std.specs.Prelude.{◌≡◌, ◌≤◌, length, IfOk};
 
 use crate::{Failed, Faults, Source};
 use news_types::Memory;
@@ -30,9 +30,11 @@ fn read_again<R: Read>(reader: &mut R, into: &mut [u8]) -> io::Result<usize>
 }
 
 impl<R: Read + Drop> StdSource<R> {
+    ghost use Rattle.news_io.specs.Devices.{std_source};
+
     /// A source over a reader, as `rt.stdin()`.
     pub fn new(alloc: Global, reader: R) -> Result<StdSource<R>, Memory>
-        ensures { IfOk result (λ source. ⟦<StdSource<R> as Source>⟧.faults source ≡ 0) }
+        ensures { IfOk result (λ source. std_source.faults source ≡ 0) }
     {
         let Ok(reader) = BufReader::with_capacity(alloc, BUFFER, reader) else {
             return Err(Memory);
@@ -45,18 +47,16 @@ impl<R: Read + Drop> StdSource<R> {
 
     /// How many of its calls failed.
     pub fn fault_count(&self) -> u64
-        ensures { result ≡ ⟦<StdSource<R> as Source>⟧.faults self.now }
+        ensures { result ≡ std_source.faults self.now }
     {
         self.faults.count()
     }
 }
 
 impl<R: Read + Drop> Source for StdSource<R> {
-    ghost faults = { λ s. s.faults };
+    ghost use Rattle.news_io.specs.Devices.{std_source};
 
-    ghost tells = { λ s. ⊥ };
-
-    ghost ahead = { λ s. [] };
+    ghost source = { std_source };
 
     fn read(&mut self, into: &mut [u8]) -> Result<usize, Failed> {
         self.faults.counted(read_again(&mut self.reader, into))

@@ -1,5 +1,5 @@
 //! A link whose receivers cannot be reached.
-ghost use Rattle.std.specs.Prelude.{◌≡◌, []};
+ghost use Rattle.std.specs.Prelude.{◌≡◌};
 
 use crate::{Failed, Faults, Link};
 use news_types::{Name, Names};
@@ -12,11 +12,13 @@ pub struct UnreachableLink {
 }
 
 impl UnreachableLink {
+    ghost use Rattle.news_io.specs.Devices.{unreachable_link};
+
     /// A link to the receivers of these subscribers.
     pub fn new(names: Names) -> UnreachableLink
-        ensures serves { ⟦<UnreachableLink as Link>⟧.serves result ≡ names }
-        ensures tells { ⟦<UnreachableLink as Link>⟧.tells result }
-        ensures faults { ⟦<UnreachableLink as Link>⟧.faults result ≡ 0 }
+        ensures serves { unreachable_link.serves result ≡ names }
+        ensures tells { unreachable_link.tells result }
+        ensures faults { unreachable_link.faults result ≡ 0 }
     {
         UnreachableLink {
             names,
@@ -26,22 +28,16 @@ impl UnreachableLink {
 
     /// How many of its calls failed.
     pub fn fault_count(&self) -> u64
-        ensures { result ≡ ⟦<UnreachableLink as Link>⟧.faults self.now }
+        ensures { result ≡ unreachable_link.faults self.now }
     {
         self.faults.count()
     }
 }
 
 impl Link for UnreachableLink {
-    ghost faults = { λ l. l.faults };
+    ghost use Rattle.news_io.specs.Devices.{unreachable_link};
 
-    ghost serves = { λ l. l.names };
-
-    ghost tells = { λ l. Unit {0} };
-
-    ghost sent = { λ l. [] };
-
-    ghost said = { λ l. [] };
+    ghost link = { unreachable_link };
 
     fn names(&self) -> &[Name] {
         self.names.as_slice()

@@ -84,13 +84,12 @@ tail_stands kind place before b other far stands = either_zero b (is_name_byte b
   where
     computed : ((b == 0) || (nat_lt 0 before && is_name_byte b)) ≡ may_stand kind place before b
     computed =
-        let a : ltb place 9 ≡ false = grind (arith, nat_tests) in
-        let c : eqb place 9 ≡ false = grind (arith, nat_tests) in
-        let d : ltb place 16 ≡ false = grind (arith, nat_tests) in
+        let a : ltb place 8 ≡ false = grind (arith, nat_tests) in
+        let c : ltb place 10 ≡ false = grind (arith, nat_tests) in
         let e : ltb place 32 ≡ false = grind (arith, nat_tests) in
         let f : eqb kind 1 ≡ false = grind (arith, nat_tests) in
         let g : eqb place 32 ≡ false = grind (arith, nat_tests) in
-        rw (a, c, d, e, f, g) refl
+        rw (a, c, e, f, g) refl
 
 pub no_zero_name : (b : ℕ) → is_name_byte b ≡ true → 0 < b
 no_zero_name zero is = absurd (cc is)

@@ -17,12 +17,12 @@ short_record : (at : ℕ) (X : List ℕ) → length X < 4 → has_record at X �
 unfolding has_record
 short_record at X less = let no_room : leb 4 (length X) ≡ false = grind (arith, nat_tests) in rw no_room refl
 
-some_fails : (s l at : ℕ) → (2097152 < s) ⊎ ((l ≤ 4 + s) ⊎ (2 ^ 30 ≤ at + 5 + s)) → (leb 4 l && (leb s 2097152 && (ltb (4 + s) l && ltb (at + 5 + s) (2 ^ 30)))) ≡ false
+some_fails : (s l at : ℕ) → (4194304 < s) ⊎ ((l ≤ 4 + s) ⊎ (2 ^ 30 ≤ at + 5 + s)) → (leb 4 l && (leb s 4194304 && (ltb (4 + s) l && ltb (at + 5 + s) (2 ^ 30)))) ≡ false
 some_fails s l at (inl a) = grind (arith, nat_tests)
 some_fails s l at (inr (inl a)) = grind (arith, nat_tests)
 some_fails s l at (inr (inr a)) = grind (arith, nat_tests)
 
-no_record : (at : ℕ) (X : List ℕ) → (2097152 < span X) ⊎ ((length X ≤ 4 + span X) ⊎ (2 ^ 30 ≤ at + 5 + span X)) → has_record at X ≡ false
+no_record : (at : ℕ) (X : List ℕ) → (4194304 < span X) ⊎ ((length X ≤ 4 + span X) ⊎ (2 ^ 30 ≤ at + 5 + span X)) → has_record at X ≡ false
 unfolding has_record
 no_record at X fails = some_fails (span X) (length X) at fails
 
@@ -34,7 +34,7 @@ cut_short n at X bytes less is =
     ap (λ (l : List ℕ). reading (suc n) at l) whole ∙ bad_record n at X (short_record at X less)
 
 -- the length is too large, or the next gate is too far
-pub too_far : (n at a b c d : ℕ) (rest bytes : List ℕ) → (2097152 < from_be_bytes w32 (a ∷ b ∷ c ∷ d ∷ [])) ⊎ ((length rest ≤ from_be_bytes w32 (a ∷ b ∷ c ∷ d ∷ [])) ⊎ (2 ^ 30 ≤ at + 5 + from_be_bytes w32 (a ∷ b ∷ c ∷ d ∷ [])))
+pub too_far : (n at a b c d : ℕ) (rest bytes : List ℕ) → (4194304 < from_be_bytes w32 (a ∷ b ∷ c ∷ d ∷ [])) ⊎ ((length rest ≤ from_be_bytes w32 (a ∷ b ∷ c ∷ d ∷ [])) ⊎ (2 ^ 30 ≤ at + 5 + from_be_bytes w32 (a ∷ b ∷ c ∷ d ∷ [])))
     → bytes ≡ 1 ∷ a ∷ b ∷ c ∷ d ∷ rest → reading (suc n) at bytes ≡ Broken (at + 1) (Some a)
 unfolding span
 too_far n at a b c d rest bytes fails is =
@@ -65,7 +65,7 @@ five (a ∷ b ∷ c ∷ d ∷ e ∷ f ∷ rest) is = absurd (omega arith)
 abbrev pub length_field : List ℕ → List ℕ
 length_field head = get_or head 1 0 ∷ get_or head 2 0 ∷ get_or head 3 0 ∷ get_or head 4 0 ∷ []
 
-pub far : (n at : ℕ) (head bytes : List ℕ) → length head ≡ 5 → get_or head 0 0 ≡ 1 → (2097152 < from_be_bytes w32 (length_field head)) ⊎ (2 ^ 30 ≤ at + 5 + from_be_bytes w32 (length_field head)) → take 5 bytes ≡ head
+pub far : (n at : ℕ) (head bytes : List ℕ) → length head ≡ 5 → get_or head 0 0 ≡ 1 → (4194304 < from_be_bytes w32 (length_field head)) ⊎ (2 ^ 30 ≤ at + 5 + from_be_bytes w32 (length_field head)) → take 5 bytes ≡ head
     → reading (suc n) at bytes ≡ Broken (at + 1) (Some (get_or head 1 0))
 far n at head bytes size is_open fails is =
     too_far n at (get_or head 1 0) (get_or head 2 0) (get_or head 3 0) (get_or head 4 0) (drop 5 bytes) bytes
@@ -83,18 +83,18 @@ record_head head n size is_open bytes is =
     all (suc (suc (suc zero))) = bytes 4
     all (suc (suc (suc (suc i)))) = omega arith
 
-top_byte : (n : ℕ) → n ≤ 2097152 → n / 16777216 % 256 ≡ 0
+top_byte : (n : ℕ) → n ≤ 4194304 → n / 16777216 % 256 ≡ 0
 top_byte n small = omega (arith, small)
 
 -- the file ends before the next gate
-pub cut_payload : (n at count : ℕ) (bytes X : List ℕ) → bytes ≡ 1 ∷ to_be_bytes w32 count ++ drop 5 bytes → count ≤ 2097152 → X ≡ drop 5 bytes → length X ≤ count → reading (suc n) at bytes ≡ Broken (at + 1) (Some 0)
+pub cut_payload : (n at count : ℕ) (bytes X : List ℕ) → bytes ≡ 1 ∷ to_be_bytes w32 count ++ drop 5 bytes → count ≤ 4194304 → X ≡ drop 5 bytes → length X ≤ count → reading (suc n) at bytes ≡ Broken (at + 1) (Some 0)
 cut_payload n at count bytes X is small same less =
     let back = from_be_bytes-to_be_bytes_4 count (omega arith) in
     too_far n at (count / 16777216 % 256) (count / 65536 % 256) (count / 256 % 256) (count % 256) (drop 5 bytes) bytes (inr (inl (omega (arith, back, less, ap length same)))) is
     ∙ ap (λ (b : ℕ). Broken (at + 1) (Some b)) (top_byte count small)
 
-pub whole_record : (count at : ℕ) (bytes X v : List ℕ) → bytes ≡ 1 ∷ to_be_bytes w32 count ++ drop 5 bytes → (count ≤ 2097152) × (at + 5 + count < 2 ^ 30) → X ≡ drop 5 bytes → (length v ≡ count) × (v ≡ take count X) × (count < length X)
-    → (rest : List ℕ) × (bytes ≡ 1 ∷ to_be_bytes w32 (length v) ++ (v ++ rest)) × (0 < length rest) × (length v ≤ 2097152) × (at + 5 + length v < 2 ^ 30)
+pub whole_record : (count at : ℕ) (bytes X v : List ℕ) → bytes ≡ 1 ∷ to_be_bytes w32 count ++ drop 5 bytes → (count ≤ 4194304) × (at + 5 + count < 2 ^ 30) → X ≡ drop 5 bytes → (length v ≡ count) × (v ≡ take count X) × (count < length X)
+    → (rest : List ℕ) × (bytes ≡ 1 ∷ to_be_bytes w32 (length v) ++ (v ++ rest)) × (0 < length rest) × (length v ≤ 4194304) × (at + 5 + length v < 2 ^ 30)
 whole_record count at bytes X v is small same payload = (
   drop count X,
   is ∙ ap (λ (l : List ℕ). 1 ∷ to_be_bytes w32 count ++ l) (sym same ∙ sym (take-append-drop count X) ∙ ap (λ (l : List ℕ). l ++ drop count X) (sym payload.1))

@@ -1,15 +1,17 @@
 -- What a crash leaves of a log in the making.
 use Rattle.std.proofs.Common.{◌≡◌, ◌≢◌, inl, inr, ℕ, suc, ◌+◌, ◌≤◌, ◌<◌, List, [], ◌∷◌, ◌++◌, length, get_or, take, drop, Some, None, Option, refl, sym, ◌∙◌, ap, subst, arith, length-append}
 use Rattle.std.proofs.lemmas.List.{take_at, drop_at, drop_all, append-nil, length-take, nil_from_length}
+use Rattle.std.specs.Prelude.{replicate}
 use Rattle.std.proofs.lemmas.Bool.{cases_eq}
-use Rattle.news_io.specs.Disk.{Holds, Torn, Only}
-use Rattle.news_journal.specs.Log.{Holding, header_bytes, records, reading}
+use Rattle.news_io.specs.Disk.{Holds, Torn, Only, DiskMeaning}
+use Rattle.news_journal.specs.Log.{Holding, IsHead, header_bytes, records, reading}
 use Rattle.news_journal.specs.Read.{closed}
 use Rattle.news_journal.specs.Damage.{header_damage, damage}
 use Rattle.news_journal.specs.Created.{IsDamaged, IsInTheMaking}
 use Rattle.news_journal.specs.Opened.{IsLog}
 use Rattle.news_journal.specs.Stands.{Outcome, IsShut}
 use Rattle.news_journal.specs.declared.header.Header.{Header}
+use Rattle.news_journal.specs.declared.header.Header.TheVariants.{Room, Receiver}
 use Rattle.news_journal.proofs.Forms.{whole, begins}
 
 header_decides : (file : List ℕ) (found : ℕ × Option ℕ) → header_damage (take 64 file) ≡ Some found → damage file ≡ Some found
@@ -37,11 +39,15 @@ first_of : (x y : ℕ) (c d : List ℕ) → take 1 c ≡ take 1 (x ∷ d) → ge
 first_of x y [] d same = absurd (cc same)
 first_of x y (z ∷ zs) d same = cc same
 
+pub new_head : (header : Header) → IsHead header (header_bytes header)
+new_head (Room store) = (2, replicate 6 0, inr refl, refl, refl)
+new_head (Receiver name) = (2, inr refl, refl)
+
 module _ (header : Header) (rest : List ℕ) (is : 78 ∷ rest ≡ header_bytes header ++ 0 ∷ []) (size : length rest ≡ 64) (form : header_damage (header_bytes header) ≡ None) where
   pub length-header : length (header_bytes header) ≡ 64
   length-header = omega (arith, ap length is, length-append (header_bytes header) (0 ∷ []), size)
 
-  made : IsLog header [] (header_bytes header ++ 0 ∷ [])
+  made : IsLog header [] (header_bytes header ++ 0 ∷ []) × (take 64 (header_bytes header ++ 0 ∷ []) ≡ header_bytes header)
   unfolding damage
   made =
       let file = header_bytes header ++ 0 ∷ [] in
@@ -49,7 +55,7 @@ module _ (header : Header) (rest : List ℕ) (is : 78 ∷ rest ≡ header_bytes 
       let tail : drop 64 file ≡ 0 ∷ [] = drop_at (header_bytes header) (0 ∷ []) 64 length-header in
       let long : length file ≡ suc 64 = omega (arith, length-append (header_bytes header) (0 ∷ []), length-header) in
       let reads : reading (length file) 64 (drop 64 file) ≡ Holding [] = ap (λ (n : ℕ). reading n 64 (drop 64 file)) long ∙ ap (λ (l : List ℕ). reading (suc 64) 64 l) tail ∙ closed 64 64 0 [] (omega arith) in
-      record { whole = rw (head, form, reads) refl; head = head; reads = reads }
+      (record { whole = rw (head, form, reads) refl; head = subst (IsHead header) (sym head) (new_head header); reads = reads }, head)
 
   -- the first write
   pub first_crash : (c : List ℕ) → Torn 0 1 [] c → IsInTheMaking header c
@@ -65,7 +71,7 @@ module _ (header : Header) (rest : List ℕ) (is : 78 ∷ rest ≡ header_bytes 
   pub third_crash : (c : List ℕ) → Torn 0 1 (0 ∷ rest) c → IsInTheMaking header c
   third_crash [] torn = inl refl
   third_crash (g ∷ c) torn = elim (cases_eq g 78) [
-    | inl same ↦ inr (inr (subst (IsLog header []) (sym ((λ i. same i ∷ torn.after i) ∙ is)) made))
+    | inl same ↦ inr (inr (subst (λ (l : List ℕ). IsLog header [] l × (take 64 l ≡ header_bytes header)) (sym ((λ i. same i ∷ torn.after i) ∙ is)) made))
     | inr other ↦ inr (inl (other_damaged (g ∷ c) other))
   ]
 
@@ -73,11 +79,10 @@ pub empty_making : (header : Header) (c seen : List ℕ) → seen ≡ [] → len
 empty_making header c seen empty le = inl (nil_from_length c (omega (arith, le, ap length empty)))
 
 -- an empty file is empty in each outcome
-pub bare_file : {D : Type 0} (tells : D → Type 0) (seen : D → List ℕ) (may_leave : D → List ℕ → Type 0) → ((d : D) (c : List ℕ) → tells d → may_leave d c → length c ≤ length (seen d))
-    → (d : D) → tells d → seen d ≡ [] → (c : List ℕ) → Outcome (seen d) (may_leave d) c → c ≡ []
-bare_file tells seen may_leave no_longer d told empty c out = elim out [
+pub bare_file : {D : Type 0} (disk : DiskMeaning D) (d : D) → disk.tells d → disk.seen d ≡ [] → (c : List ℕ) → Outcome (disk.seen d) (disk.may_leave d) c → c ≡ []
+bare_file disk d told empty c out = elim out [
   | inl same ↦ same ∙ empty
-  | inr may ↦ nil_from_length c (let le : length c ≤ length (seen d) = no_longer d c told may in omega (arith, le, ap length empty))
+  | inr may ↦ nil_from_length c (let le : length c ≤ length (disk.seen d) = disk.no_longer d c told may in omega (arith, le, ap length empty))
 ]
 
 pub made_shut : (head seen : List ℕ) (m : List ℕ → Type 0) → seen ≡ head ++ 0 ∷ [] → Only seen m → IsShut (head ++ records []) seen m

@@ -4,7 +4,7 @@ use Rattle.std.specs.Prelude.{◌==◌, replicate}
 use Rattle.std.specs.Cmp.{first_so, second_so}
 use Rattle.std.proofs.lemmas.List.{length-take, take_at, length-replicate}
 use Rattle.std.proofs.lemmas.Bool.Decides.{nat_tests}
-use Rattle.news_journal.specs.Log.{Reading, Holding, Broken, IsOfForm, header_bytes, reading, payloads_of, starts_with, opened}
+use Rattle.news_journal.specs.Log.{Reading, Holding, Broken, room_head, receiver_head, IsOfForm, IsHead, header_bytes, reading, payloads_of, starts_with, opened}
 use Rattle.news_journal.specs.Read.{opened_at}
 use Rattle.news_journal.specs.Damage.{misfit, header_damage, damage, damage_of}
 use Rattle.news_journal.specs.Opened.{IsLog}
@@ -12,6 +12,7 @@ use Rattle.news_journal.specs.Created.{IsDamaged, IsInTheMaking}
 use Rattle.news_journal.specs.declared.header.Header.{Header}
 use Rattle.news_journal.specs.declared.header.Header.TheVariants.{Room, Receiver}
 use Rattle.news_journal.proofs.Forms.{whole}
+use Rattle.news_journal.proofs.Made.{new_head}
 use Rattle.news_journal.proofs.Fits.{room_fits, receiver_fits, few_bytes}
 
 abbrev payloads_in : List (ℕ × List ℕ) → List (List ℕ)
@@ -34,12 +35,12 @@ header_long : (head : List ℕ) → header_damage head ≡ None → length head 
 header_long head form most = let enough = whole head form in omega (arith, enough)
 
 -- a log opens to its payloads
-pub log_opens : (header : Header) (rs : List (ℕ × List ℕ)) (file : List ℕ) → IsLog header rs file → opened (header_bytes header) file ≡ Some (map (λ (r : ℕ × List ℕ). r.1) rs)
+pub log_opens : (header : Header) (rs : List (ℕ × List ℕ)) (file : List ℕ) → IsLog header rs file → opened (take 64 file) file ≡ Some (map (λ (r : ℕ × List ℕ). r.1) rs)
 log_opens header rs file log =
-    let head = header_bytes header in
-    let form : header_damage head ≡ None = subst (λ (l : List ℕ). header_damage l ≡ None) log.head (no_header_damage file log.whole) in
-    let long : length head ≡ 64 = header_long head form (omega (arith, sym (ap length log.head), length-take 64 file)) in
-    let split : file ≡ head ++ drop 64 file = sym (take-append-drop 64 file) ∙ ap (λ (l : List ℕ). l ++ drop 64 file) log.head in
+    let head = take 64 file in
+    let form : header_damage head ≡ None = no_header_damage file log.whole in
+    let long : length head ≡ 64 = header_long head form (omega (arith, length-take 64 file)) in
+    let split : file ≡ head ++ drop 64 file = sym (take-append-drop 64 file) in
     ap (opened head) split ∙ opened_at head (drop 64 file)
     ∙ ap (λ (l : List ℕ). payloads_of (reading (length l) (length head) (drop 64 file))) (sym split)
     ∙ ap (λ (n : ℕ). payloads_of (reading (length file) n (drop 64 file))) long
@@ -76,38 +77,39 @@ pub record OpensAs (header : Header) (ps : List (List ℕ)) (file : List ℕ) : 
   pub payloads : map (λ (r : ℕ × List ℕ). r.1) rs ≡ ps
 
 -- every header that the code holds is of the form
-pub form_fits : (header : Header) → IsOfForm header → header_damage (header_bytes header) ≡ None
-form_fits (Room store) long = room_fits store long
-form_fits (Receiver name) form = receiver_fits name form
+pub form_fits : (header : Header) (head : List ℕ) → IsOfForm header → IsHead header head → header_damage head ≡ None
+form_fits (Room store) head long is = ap header_damage is.4 ∙ room_fits is.0 is.1 store is.2 is.3 long
+form_fits (Receiver name) head form is = ap header_damage is.2 ∙ receiver_fits is.0 name is.1 form
 
-pub length-header_bytes : (header : Header) → IsOfForm header → length (header_bytes header) ≡ 64
-unfolding header_bytes
-length-header_bytes (Room store) long = omega (arith, length-append store (replicate 32 0), long)
-length-header_bytes (Receiver name) form = omega (arith, length-append name (replicate (32 - length name) 0), length-replicate {A = ℕ} (32 - length name) 0, few_bytes name form)
+pub length-head : (header : Header) (head : List ℕ) → IsOfForm header → IsHead header head → length head ≡ 64
+unfolding room_head receiver_head
+length-head (Room store) head long is =
+    omega (arith, ap length is.4, length-append is.1 (store ++ replicate 32 0), length-append store (replicate 32 0), is.3, long)
+length-head (Receiver name) head form is =
+    omega (arith, ap length is.2, length-append name (replicate (32 - length name) 0), length-replicate {A = ℕ} (32 - length name) 0, few_bytes name form)
 
-pub opens_log : (header : Header) (ps : List (List ℕ)) (file : List ℕ) → IsOfForm header → opened (header_bytes header) file ≡ Some ps → OpensAs header ps file
+pub opens_log : (header : Header) (head : List ℕ) (ps : List (List ℕ)) (file : List ℕ) → IsOfForm header → IsHead header head → opened head file ≡ Some ps → OpensAs header ps file
 unfolding opened
-opens_log header ps file form is = by_start (starts_with (header_bytes header) file) refl
+opens_log header head ps file form of is = by_start (starts_with head file) refl
   where
-    by_start : (b : Bool) → starts_with (header_bytes header) file ≡ b → OpensAs header ps file
+    by_start : (b : Bool) → starts_with head file ≡ b → OpensAs header ps file
     by_start false other = absurd (cc (rw other at is))
     by_start true same =
-        let head = header_bytes header in
-        let long = length-header_bytes header form in
+        let long = length-head header head form of in
         let s = split_start head file same in
         let begins : take 64 file ≡ head = ap (take 64) s.1 ∙ take_at head s.0 64 long in
         let at_64 = ap (λ (n : ℕ). payloads_of (reading (length file) n (drop n file))) (sym long) ∙ (rw same at is) in
         let r = read_of (length file) 64 (drop 64 file) ps at_64 in
-        let fits = subst (λ (l : List ℕ). header_damage l ≡ None) (sym begins) (form_fits header form) in
-        record { rs = r.rs; log = record { whole = no_damage file fits (ap damage_of r.reads); head = begins; reads = r.reads }; payloads = r.payloads }
+        let fits = subst (λ (l : List ℕ). header_damage l ≡ None) (sym begins) (form_fits header head form of) in
+        record { rs = r.rs; log = record { whole = no_damage file fits (ap damage_of r.reads); head = subst (IsHead header) (sym begins) of; reads = r.reads }; payloads = r.payloads }
 
 -- what is damaged opens to no list
-pub damaged_opens : (header : Header) (file : List ℕ) → IsOfForm header → IsDamaged file → opened (header_bytes header) file ≡ None
-damaged_opens header file form bad = by_list (opened (header_bytes header) file) refl
+pub damaged_opens : (header : Header) (head file : List ℕ) → IsOfForm header → IsHead header head → IsDamaged file → opened head file ≡ None
+damaged_opens header head file form of bad = by_list (opened head file) refl
   where
-    by_list : (found : Option (List (List ℕ))) → opened (header_bytes header) file ≡ found → opened (header_bytes header) file ≡ None
+    by_list : (found : Option (List (List ℕ))) → opened head file ≡ found → opened head file ≡ None
     by_list None is = is
-    by_list (Some ps) is = let whole = (opens_log header ps file form is).log.whole in absurd (cc (whole, bad.1))
+    by_list (Some ps) is = let whole = (opens_log header head ps file form of is).log.whole in absurd (cc (whole, bad.1))
 
 nothing_damaged : damage [] ≡ Some (0, None)
 unfolding damage header_damage misfit
@@ -115,6 +117,6 @@ nothing_damaged = refl
 
 -- a log in the making opens to no list, or to an empty one
 pub making_opens : (header : Header) (file : List ℕ) → IsOfForm header → IsInTheMaking header file → (opened (header_bytes header) file ≡ None) ⊎ (opened (header_bytes header) file ≡ Some [])
-making_opens header file form (inl empty) = inl (damaged_opens header file form ((0, None), ap damage empty ∙ nothing_damaged))
-making_opens header file form (inr (inl bad)) = inl (damaged_opens header file form bad)
-making_opens header file form (inr (inr log)) = inr (log_opens header [] file log)
+making_opens header file form (inl empty) = inl (damaged_opens header (header_bytes header) file form (new_head header) ((0, None), ap damage empty ∙ nothing_damaged))
+making_opens header file form (inr (inl bad)) = inl (damaged_opens header (header_bytes header) file form (new_head header) bad)
+making_opens header file form (inr (inr log)) = inr (ap (λ (head : List ℕ). opened head file) (sym log.1) ∙ log_opens header [] file log.0)

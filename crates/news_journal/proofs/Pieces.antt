@@ -3,6 +3,7 @@ use Rattle.std.proofs.Common.{◌≡◌, ℕ, ◌+◌, ◌≤◌, List, ◌++◌
 use Rattle.std.proofs.lemmas.List.{take_at, take-take, drop-take, length-take-le, length-drop}
 use Rattle.news_io.proofs.Runs.{elapses_same, elapses_weaker, elapses_then}
 use Rattle.news_journal.specs.Opened.{Still}
+use Rattle.news_io.specs.Disk.{DiskMeaning}
 use borrow.Rule.Slice.PartMut.{put_mid, post_of}
 
 two_parts : (S : List ℕ) (done n : ℕ) → take done S ++ take n (drop done S) ≡ take (done + n) S
@@ -29,11 +30,11 @@ one_more_read S X into piece old done n k same fits more so_far is =
     let more' : n ≤ length (drop done S) = subst (λ (l : List ℕ). n ≤ length l) same more in
     (omega (arith, more', length-drop done S), one_more_piece S into piece old done n k fits more' so_far (is ∙ ap (λ (l : List ℕ). take n l ++ old) same))
 
-module _ {D : Type 0} (tells : D → Type 0) (seen : D → List ℕ) (may_leave : D → List ℕ → Type 0) (moment : D → ℕ) (left_since : D → ℕ → List ℕ → Type 0) where
-  pub still_same : (d : D) → Still tells seen may_leave moment left_since d d
+module _ {D : Type 0} (disk : DiskMeaning D) where
+  pub still_same : (d : D) → Still disk d d
   still_same d = record { told = λ t. t; seen_same = refl; crash = λ c h. h; time = elapses_same _ _ _ }
 
-  pub still_then : (old mid new : D) → Still tells seen may_leave moment left_since old mid → Still tells seen may_leave moment left_since mid new → Still tells seen may_leave moment left_since old new
+  pub still_then : (old mid new : D) → Still disk old mid → Still disk mid new → Still disk old new
   still_then old mid new a b = record {
     told = λ t. b.told (a.told t);
     seen_same = b.seen_same ∙ a.seen_same;

@@ -1,5 +1,5 @@
 -- The records that were read so far.
-use Rattle.std.proofs.Common.{◌≡◌, ◌≢◌, ⊎_elim, ℕ, suc, ◌+◌, ◌-◌, ◌≤◌, ◌<◌, ◌^◌, List, [], ◌∷◌, ◌++◌, length, take, drop, None, Option, Result, Ok, Err, refl, sym, ◌∙◌, ap, subst, arith, append_assoc, length-append, take-append-drop, zero-add}
+use Rattle.std.proofs.Common.{◌≡◌, ◌≢◌, ⊎_elim, ℕ, suc, ◌+◌, ◌-◌, ◌≤◌, ◌<◌, ◌^◌, List, [], ◌∷◌, ◌++◌, length, take, drop, None, Option, Err, refl, sym, ◌∙◌, ap, subst, arith, append_assoc, length-append, take-append-drop, zero-add}
 use Rattle.std.proofs.lemmas.List.{drop_at, drop-drop, length-take, length-drop, map-append}
 use Rattle.news_io.specs.Disk.{Only}
 use Rattle.news_journal.specs.Stands.{IsShut}
@@ -9,8 +9,6 @@ use Rattle.news_journal.specs.Read.{one_record, closed, records_push, AllFit-pus
 use Rattle.news_journal.specs.Opened.{payloads, places, HoldsRecords, ReadsAs, RecordsAs, HeaderAs, IsDamage, IsHeaderOf}
 use Rattle.news_journal.specs.Damage.{header_damage, damage}
 use Rattle.news_journal.proofs.Forms.{whole}
-use Rattle.std.specs.Result.{result_ok}
-use Rattle.news_journal.specs.declared.header.Header.{Header}
 use Rattle.news_journal.specs.declared.log.OpenFault.{OpenFault}
 use Rattle.news_journal.specs.declared.log.OpenFault.TheVariants.{DiskFault, Damaged, Memory}
 use Rattle.news_io.specs.declared.record.Record.{Record}
@@ -66,7 +64,7 @@ module _ (file : List ℕ) (gate : ℕ) (rs : List Record) (so_far : SoFar file 
       ∙ ap (with_all (places rs)) (fails (length file - length rs - 1))
       ∙ with_all_broken (places rs) place found
 
-  pub one_further : (v : Record) (rest : List ℕ) (next : ℕ) → v.at ≡ gate → drop gate file ≡ 1 ∷ to_be_bytes w32 (length v.bytes) ++ (v.bytes ++ rest) → 0 < length rest → length v.bytes ≤ 2097152 → gate + 5 + length v.bytes < 2 ^ 30
+  pub one_further : (v : Record) (rest : List ℕ) (next : ℕ) → v.at ≡ gate → drop gate file ≡ 1 ∷ to_be_bytes w32 (length v.bytes) ++ (v.bytes ++ rest) → 0 < length rest → length v.bytes ≤ 4194304 → gate + 5 + length v.bytes < 2 ^ 30
       → next ≡ gate + 5 + length v.bytes → SoFar file next (rs ++ v ∷ [])
   one_further v rest next at is more fits small next_is = record {
     fit = subst AllFit (sym pushed) (AllFit-push (payloads rs) v.bytes so_far.fit fits);
@@ -110,7 +108,7 @@ fault_reads file gate rs so_far DiskFault reads = tt
 fault_reads file gate rs so_far Memory reads = tt
 
 module _ (head file : List ℕ) (gate : ℕ) (rs : List Record) (is : take 64 file ≡ head) (holds : HoldsRecords file gate rs) where
-  file_is : file ≡ (head ++ records (payloads rs)) ++ holds.byte ∷ holds.rest
+  pub file_is : file ≡ (head ++ records (payloads rs)) ++ holds.byte ∷ holds.rest
   file_is = sym (take-append-drop 64 file) ∙ ap (λ (l : List ℕ). l ++ drop 64 file) is ∙ ap (λ (l : List ℕ). head ++ l) holds.split ∙ sym (append_assoc head (records (payloads rs)) (holds.byte ∷ holds.rest))
 
   long : length file ≡ 64 + (length (records (payloads rs)) + (length holds.rest + 1))
@@ -149,11 +147,11 @@ pub enough_for_header : (file : List ℕ) → header_damage (take 64 file) ≡ N
 enough_for_header file header = let all = whole (take 64 file) header in omega (arith, all, length-take 64 file)
 
 -- one record more is five bytes and its payload more
-records_longer : (ps : List (List ℕ)) (p : List ℕ) → length (records (ps ++ p ∷ [])) ≡ length (records ps) + (5 + length p)
+pub records_longer : (ps : List (List ℕ)) (p : List ℕ) → length (records (ps ++ p ∷ [])) ≡ length (records ps) + (5 + length p)
 records_longer ps p =
     omega (arith, ap length (records_push ps p), length-append (records ps) (1 ∷ to_be_bytes w32 (length p) ++ p), length-append (to_be_bytes w32 (length p)) p, length-be (length p))
 
-payloads_more : (rs : List Record) (r : Record) → payloads (rs ++ r ∷ []) ≡ payloads rs ++ r.bytes ∷ []
+pub payloads_more : (rs : List Record) (r : Record) → payloads (rs ++ r ∷ []) ≡ payloads rs ++ r.bytes ∷ []
 payloads_more [] r = refl
 payloads_more (q ∷ rs) r = ap (λ (l : List (List ℕ)). q.bytes ∷ l) (payloads_more rs r)
 
@@ -162,8 +160,8 @@ one_longer gate next rs rs' r count is place more size =
     let sum : length (records (payloads rs')) ≡ length (records (payloads rs)) + (5 + length r.bytes) = ap (λ (l : List Record). length (records (payloads l))) is ∙ ap (λ (l : List (List ℕ)). length (records l)) (payloads_more rs r) ∙ records_longer (payloads rs) r.bytes in
     omega (arith, place, more, size, sum)
 
-pub header_of_is : (bytes : List ℕ) (r : Result Header OpenFault) → HeaderAs bytes r → IsHeaderOf bytes (result_ok r)
-header_of_is bytes (Ok header) is = is
-header_of_is bytes (Err (Damaged at found)) is = ((at, found), is)
-header_of_is bytes (Err DiskFault) is = absurd is
-header_of_is bytes (Err Memory) is = absurd is
+-- none is read where the bytes are not of the form
+pub no_header : (bytes : List ℕ) (e : OpenFault) → HeaderAs bytes (Err e) → IsHeaderOf bytes None
+no_header bytes (Damaged at found) is = ((at, found), is)
+no_header bytes DiskFault is = absurd is
+no_header bytes Memory is = absurd is

@@ -1,19 +1,19 @@
 -- Where bytes are no log.
-use Rattle.std.specs.Prelude.{ℕ, zero, suc, ◌+◌, List, [], ◌∷◌, ◌++◌, length, take, drop, codes, Bool, ◌&&◌, ◌||◌, ◌==◌, nat_lt, if◌then◌else◌, Option, Some, None, slice_index}
+use Rattle.std.specs.Prelude.{ℕ, zero, suc, ◌+◌, List, [], ◌∷◌, length, take, drop, codes, Bool, ◌&&◌, ◌||◌, ◌==◌, nat_lt, if◌then◌else◌, Option, Some, None, slice_index}
 use Rattle.std.specs.Option.{option_or}
 use Rattle.news_types.specs.Names.{is_name_byte}
 use Rattle.news_journal.specs.Log.{Reading, Holding, Broken, reading}
 
 -- the bytes with which every header begins
 abbrev pub start : List ℕ
-start = codes "NEWSDESK" ++ 1 ∷ []
+start = codes "NEWSDESK"
 
--- whether a byte may stand at a place of a header of this kind, behind that byte
+-- whether a byte may stand at a place of a header of this kind, behind that byte: the editions are 1 and 2, and so are the kinds;
+-- behind them a room has six bytes of a base and its store's identifier, and a receiver has zeros and then its name
 abbrev pub may_stand : ℕ → ℕ → ℕ → ℕ → Bool
 may_stand kind place before byte =
-    if nat_lt place 9 then byte == slice_index start place
-    else if place == 9 then (byte == 1 || byte == 2)
-    else if nat_lt place 16 then byte == 0
+    if nat_lt place 8 then byte == slice_index start place
+    else if nat_lt place 10 then (byte == 1 || byte == 2)
     else if nat_lt place 32 then (kind == 1 || byte == 0)
     else if kind == 1 then byte == 0
     else if place == 32 then is_name_byte byte

@@ -1,6 +1,7 @@
 pub mod Calls
 pub mod Created
 pub mod Damage
+pub mod Journal
 pub mod Law
 pub mod Log
 pub mod Opened

@@ -1,7 +1,7 @@
 -- The bytes of a log: a header, and then records, each behind a gate.
-use Rattle.std.specs.Prelude.{◌≡◌, ℕ, zero, suc, ◌+◌, ◌-◌, ◌≤◌, ◌^◌, List, [], ◌∷◌, ◌++◌, length, take, drop, map, replicate, codes, Bool, true, false, ◌&&◌, ◌==◌, nat_le, nat_lt, if◌then◌else◌, Option, Some, None, IsTrue, slice_get}
+use Rattle.std.specs.Prelude.{◌≡◌, ◌⊎◌, ℕ, zero, suc, ◌+◌, ◌-◌, ◌≤◌, ◌^◌, List, [], ◌∷◌, ◌++◌, length, take, drop, map, replicate, codes, Bool, true, false, ◌&&◌, ◌==◌, nat_le, nat_lt, if◌then◌else◌, Option, Some, None, IsTrue, slice_get}
 use Rattle.std.specs.Int.{w32, to_be_bytes, from_be_bytes}
-use Rattle.news_types.specs.Names.{is_name}
+use Rattle.news_types.specs.Names.{Bytes, is_name}
 use Rattle.news_journal.specs.declared.header.Header.{Header}
 use Rattle.news_journal.specs.declared.header.Header.TheVariants.{Room, Receiver}
 
@@ -10,10 +10,27 @@ abbrev pub IsOfForm : Header → Type 0
 IsOfForm (Room store) = length store ≡ 16
 IsOfForm (Receiver name) = IsTrue (is_name name)
 
--- 64 bytes: NEWSDESK, the edition 1, the kind, six zeros, the store's identifier or zeros, and the receiver's name filled with zeros
-unfoldable pub header_bytes : Header → List ℕ
-header_bytes (Room store) = codes "NEWSDESK" ++ 1 ∷ 1 ∷ replicate 6 0 ++ store ++ replicate 32 0
-header_bytes (Receiver name) = codes "NEWSDESK" ++ 1 ∷ 2 ∷ replicate 6 0 ++ replicate 16 0 ++ name ++ replicate (32 - length name) 0
+-- the header of a room: NEWSDESK, the edition, the kind 1, six bytes that say how many entries of the list stand before the first record, the store's identifier, and zeros
+unfoldable pub room_head : ℕ → List ℕ → Bytes → List ℕ
+room_head edition base store = codes "NEWSDESK" ++ edition ∷ 1 ∷ (base ++ (store ++ replicate 32 0))
+
+-- the header of a receiver: NEWSDESK, the edition, the kind 2, zeros, and the name filled with zeros
+unfoldable pub receiver_head : ℕ → Bytes → List ℕ
+receiver_head edition name = codes "NEWSDESK" ++ edition ∷ 2 ∷ (replicate 22 0 ++ (name ++ replicate (32 - length name) 0))
+
+-- the editions that are read
+abbrev pub IsEdition : ℕ → Type 0
+IsEdition edition = (edition ≡ 1) ⊎ (edition ≡ 2)
+
+-- these 64 bytes are this header, in some edition; a room's, with some base
+abbrev pub IsHead : Header → List ℕ → Type 0
+IsHead (Room store) bytes = (edition : ℕ) × (base : List ℕ) × IsEdition edition × (length base ≡ 6) × (bytes ≡ room_head edition base store)
+IsHead (Receiver name) bytes = (edition : ℕ) × IsEdition edition × (bytes ≡ receiver_head edition name)
+
+-- the header that a new log is given: edition 2, and a room's with no entry before its first record
+abbrev pub header_bytes : Header → List ℕ
+header_bytes (Room store) = room_head 2 (replicate 6 0) store
+header_bytes (Receiver name) = receiver_head 2 name
 
 -- what stands behind a header: records, each with the place of its gate; or the place of the first damage, with the byte there
 pub data Reading : Type 0 where
@@ -30,7 +47,7 @@ span rest = from_be_bytes w32 (take 4 rest)
 
 -- the length is whole and in bounds, and the next gate is inside the file and the limit
 unfoldable pub has_record : ℕ → List ℕ → Bool
-has_record at rest = nat_le 4 (length rest) && (nat_le (span rest) 2097152 && (nat_lt (4 + span rest) (length rest) && nat_lt (at + 5 + span rest) (2 ^ 30)))
+has_record at rest = nat_le 4 (length rest) && (nat_le (span rest) 4194304 && (nat_lt (4 + span rest) (length rest) && nat_lt (at + 5 + span rest) (2 ^ 30)))
 
 -- the records from the gate at this place on, at most this many
 unfoldable pub reading : ℕ → ℕ → List ℕ → Reading
@@ -64,4 +81,4 @@ records (p ∷ ps) = 1 ∷ to_be_bytes w32 (length p) ++ (p ++ records ps)
 
 abbrev pub AllFit : List (List ℕ) → Type 0
 AllFit [] = Unit {0}
-AllFit (p ∷ ps) = (length p ≤ 2097152) × AllFit ps
+AllFit (p ∷ ps) = (length p ≤ 4194304) × AllFit ps

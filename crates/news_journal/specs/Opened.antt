@@ -3,21 +3,21 @@ use Rattle.std.specs.Prelude.{◌≡◌, ◌≢◌, ℕ, suc, ◌+◌, ◌-◌, 
 use Rattle.std.specs.Int.{w32, to_be_bytes}
 use Rattle.std.specs.declared.alloc.Global.{Global}
 use Rattle.news_io.specs.Faults.{Rose}
-use Rattle.news_io.specs.Moments.{Elapses}
 use Rattle.news_io.specs.declared.record.Record.{Record}
 use Rattle.news_types.specs.Names.{Bytes, is_name}
-use Rattle.news_journal.specs.Log.{Holding, Broken, header_bytes, reading, records, AllFit}
+use Rattle.news_journal.specs.Log.{Holding, Broken, IsHead, reading, records, AllFit}
 use Rattle.news_journal.specs.Damage.{header_damage, damage}
 use Rattle.news_journal.specs.declared.header.Header.{Header}
 use Rattle.news_journal.specs.declared.log.OpenFault.{OpenFault}
 use Rattle.news_journal.specs.declared.log.OpenFault.TheVariants.{DiskFault, Damaged}
+use Rattle.news_io.specs.Disk.{DiskMeaning, DiskGains}
 
 -- a disk that was read: nothing has changed, and a crash leaves nothing new
-pub record Still {D : Type 0} (tells : D → Type 0) (seen : D → List ℕ) (may_leave : D → List ℕ → Type 0) (moment : D → ℕ) (left_since : D → ℕ → List ℕ → Type 0) (old new : D) : Type 0 where
-  pub told : tells old → tells new
-  pub seen_same : seen new ≡ seen old
-  pub crash : (c : List ℕ) → may_leave new c → may_leave old c
-  pub time : Elapses (moment old) (moment new) (left_since old) (left_since new) (may_leave old)
+pub record Still {D : Type 0} (disk : DiskMeaning D) (old new : D) : Type 0 where
+  pub told : disk.tells old → disk.tells new
+  pub seen_same : disk.seen new ≡ disk.seen old
+  pub crash : (c : List ℕ) → disk.may_leave new c → disk.may_leave old c
+  pub time : DiskGains disk old new (disk.may_leave old)
 
 abbrev pub IsDiskFault : OpenFault → Type 0
 IsDiskFault DiskFault = Unit {0}
@@ -41,27 +41,27 @@ pub record IsFilled (bytes : List ℕ) : Type 0 where
   pub is : bytes ≡ name ++ replicate (32 - length name) 0
 
 -- of the first 64 bytes
-abbrev pub HeaderAs : List ℕ → Result Header OpenFault → Type 0
-HeaderAs bytes (Ok header) = (header_damage bytes ≡ None) × (bytes ≡ header_bytes header)
+abbrev pub HeaderAs : List ℕ → Result (List ℕ × Header) OpenFault → Type 0
+HeaderAs bytes (Ok found) = (header_damage bytes ≡ None) × (found.0 ≡ bytes) × IsHead found.1 bytes
 HeaderAs bytes (Err (Damaged at byte)) = header_damage bytes ≡ Some (at, byte)
 HeaderAs bytes (Err e) = ⊥
 
 -- the header in these bytes, or none where they are not of the form
 abbrev pub IsHeaderOf : List ℕ → Option Header → Type 0
-IsHeaderOf bytes (Some header) = (header_damage bytes ≡ None) × (bytes ≡ header_bytes header)
+IsHeaderOf bytes (Some header) = (header_damage bytes ≡ None) × IsHead header bytes
 IsHeaderOf bytes None = (found : ℕ × Option ℕ) × (header_damage bytes ≡ Some found)
 
 -- of the first five bytes from a gate on
 abbrev pub LooksAs : ℕ → List ℕ → Result (Option ℕ) OpenFault → Type 0
 LooksAs at head (Ok None) = (g : ℕ) × (rest : List ℕ) × (g ≢ 1) × (head ≡ g ∷ rest)
-LooksAs at head (Ok (Some n)) = (head ≡ 1 ∷ to_be_bytes w32 n) × (n ≤ 2097152) × (at + 5 + n < 2 ^ 30)
+LooksAs at head (Ok (Some n)) = (head ≡ 1 ∷ to_be_bytes w32 n) × (n ≤ 4194304) × (at + 5 + n < 2 ^ 30)
 LooksAs at head (Err (Damaged place found)) = (bytes : List ℕ) → take 5 bytes ≡ head → (n : ℕ) → reading (suc n) at bytes ≡ Broken place found
 LooksAs at head (Err e) = ⊥
 
 -- of all bytes from a gate on
 abbrev pub HeadAs : ℕ → List ℕ → Result (Option ℕ) OpenFault → Type 0
 HeadAs at bytes (Ok None) = (g : ℕ) × (rest : List ℕ) × (g ≢ 1) × (bytes ≡ g ∷ rest)
-HeadAs at bytes (Ok (Some n)) = (bytes ≡ 1 ∷ to_be_bytes w32 n ++ drop 5 bytes) × (n ≤ 2097152) × (at + 5 + n < 2 ^ 30)
+HeadAs at bytes (Ok (Some n)) = (bytes ≡ 1 ∷ to_be_bytes w32 n ++ drop 5 bytes) × (n ≤ 4194304) × (at + 5 + n < 2 ^ 30)
 HeadAs at bytes (Err (Damaged place found)) = (n : ℕ) → reading (suc n) at bytes ≡ Broken place found
 HeadAs at bytes (Err e) = Unit {0}
 
@@ -76,7 +76,7 @@ PayloadAs count bytes (Err e) = Unit {0}
 abbrev pub ReadsAs : ℕ → List ℕ → Result (Option Bytes) OpenFault → Type 0
 ReadsAs at bytes (Ok None) = (g : ℕ) × (rest : List ℕ) × (g ≢ 1) × (bytes ≡ g ∷ rest)
 ReadsAs at bytes (Ok (Some payload)) =
-    (rest : List ℕ) × (bytes ≡ 1 ∷ to_be_bytes w32 (length payload) ++ (payload ++ rest)) × (0 < length rest) × (length payload ≤ 2097152) × (at + 5 + length payload < 2 ^ 30)
+    (rest : List ℕ) × (bytes ≡ 1 ∷ to_be_bytes w32 (length payload) ++ (payload ++ rest)) × (0 < length rest) × (length payload ≤ 4194304) × (at + 5 + length payload < 2 ^ 30)
 ReadsAs at bytes (Err (Damaged place found)) = (n : ℕ) → reading (suc n) at bytes ≡ Broken place found
 ReadsAs at bytes (Err e) = Unit {0}
 
@@ -105,7 +105,7 @@ RecordsAs file (Err e) = Unit {0}
 -- a log with this header and these records, each with the place of its gate
 pub record IsLog (header : Header) (rs : List (ℕ × Bytes)) (file : List ℕ) : Type 0 where
   pub whole : damage file ≡ None
-  pub head : take 64 file ≡ header_bytes header
+  pub head : IsHead header (take 64 file)
   pub reads : reading (length file) 64 (drop 64 file) ≡ Holding rs
 
 -- fewer than 2^30, each before that place

@@ -9,7 +9,7 @@ use Rattle.news_journal.specs.Log.{Reading, Holding, Broken, with_first, span, h
 pub length-be : (n : ℕ) → length (to_be_bytes w32 n) ≡ 4
 length-be n = refl
 
-pub span_is : (p rest : List ℕ) → length p ≤ 2097152 → span (to_be_bytes w32 (length p) ++ (p ++ rest)) ≡ length p
+pub span_is : (p rest : List ℕ) → length p ≤ 4194304 → span (to_be_bytes w32 (length p) ++ (p ++ rest)) ≡ length p
 unfolding span
 span_is p rest fits = ap (from_be_bytes w32) (take_at (to_be_bytes w32 (length p)) (p ++ rest) 4 (length-be (length p))) ∙ from_be_bytes-to_be_bytes_4 (length p) (omega arith)
 
@@ -19,21 +19,21 @@ behind_length p rest = refl
 length_all : (p rest : List ℕ) → length (to_be_bytes w32 (length p) ++ (p ++ rest)) ≡ 4 + (length p + length rest)
 length_all p rest = omega (arith, length-append (to_be_bytes w32 (length p)) (p ++ rest), length-append p rest, length-be (length p))
 
-has_record_is : (at : ℕ) (p rest : List ℕ) → length p ≤ 2097152 → 0 < length rest → at + 5 + length p < 2 ^ 30 → has_record at (to_be_bytes w32 (length p) ++ (p ++ rest)) ≡ true
+has_record_is : (at : ℕ) (p rest : List ℕ) → length p ≤ 4194304 → 0 < length rest → at + 5 + length p < 2 ^ 30 → has_record at (to_be_bytes w32 (length p) ++ (p ++ rest)) ≡ true
 unfolding has_record
 has_record_is at p rest fits more small =
     let is = span_is p rest fits in
     let long = length_all p rest in
     all_tests (span (to_be_bytes w32 (length p) ++ (p ++ rest))) (length (to_be_bytes w32 (length p) ++ (p ++ rest))) at (omega arith) (omega arith) (omega arith) (omega arith)
   where
-    all_tests : (s l at : ℕ) → 4 ≤ l → s ≤ 2097152 → 4 + s < l → at + 5 + s < 2 ^ 30 → (leb 4 l && (leb s 2097152 && (ltb (4 + s) l && ltb (at + 5 + s) (2 ^ 30)))) ≡ true
+    all_tests : (s l at : ℕ) → 4 ≤ l → s ≤ 4194304 → 4 + s < l → at + 5 + s < 2 ^ 30 → (leb 4 l && (leb s 4194304 && (ltb (4 + s) l && ltb (at + 5 + s) (2 ^ 30)))) ≡ true
     all_tests s l at a b c d = grind (arith, nat_tests)
 
 step : (n at s : ℕ) (X p rest : List ℕ) → has_record at X ≡ true → span X ≡ s → take s (drop 4 X) ≡ p → drop (4 + s) X ≡ rest → reading (suc n) at (1 ∷ X) ≡ with_first (at, p) (reading n (at + 5 + s) rest)
 unfolding reading
 step n at s X p rest has sp tk dr = rw (has, sp, tk, dr) refl
 
-pub one_record : (n at : ℕ) (p rest : List ℕ) → length p ≤ 2097152 → 0 < length rest → at + 5 + length p < 2 ^ 30 → reading (suc n) at (1 ∷ to_be_bytes w32 (length p) ++ (p ++ rest)) ≡ with_first (at, p) (reading n (at + 5 + length p) rest)
+pub one_record : (n at : ℕ) (p rest : List ℕ) → length p ≤ 4194304 → 0 < length rest → at + 5 + length p < 2 ^ 30 → reading (suc n) at (1 ∷ to_be_bytes w32 (length p) ++ (p ++ rest)) ≡ with_first (at, p) (reading n (at + 5 + length p) rest)
 one_record n at p rest fits more small =
     step n at (length p) (to_be_bytes w32 (length p) ++ (p ++ rest)) p rest (has_record_is at p rest fits more small) (span_is p rest fits)
     (take_at p rest (length p) refl)
@@ -77,7 +77,7 @@ opened_closed head ps g rest fit small shut =
     ∙ opened_at head (records ps ++ g ∷ rest)
     ∙ records_read (length (head ++ (records ps ++ g ∷ rest))) (length head) ps g rest fit (omega arith) (omega arith) shut
 
-pub AllFit-push : (ps : List (List ℕ)) (p : List ℕ) → AllFit ps → length p ≤ 2097152 → AllFit (ps ++ p ∷ [])
+pub AllFit-push : (ps : List (List ℕ)) (p : List ℕ) → AllFit ps → length p ≤ 4194304 → AllFit (ps ++ p ∷ [])
 AllFit-push [] p fit fits = (fits, tt)
 AllFit-push (q ∷ ps) p fit fits = (fit.0, AllFit-push ps p fit.1 fits)
 
@@ -86,12 +86,12 @@ records_push [] p = ap (λ (l : List ℕ). 1 ∷ to_be_bytes w32 (length p) ++ l
 records_push (q ∷ ps) p = ap (λ (l : List ℕ). 1 ∷ to_be_bytes w32 (length q) ++ (q ++ l)) (records_push ps p) ∙ ap (λ (l : List ℕ). 1 ∷ to_be_bytes w32 (length q) ++ l) (sym (append_assoc q (records ps) (1 ∷ to_be_bytes w32 (length p) ++ p)))
 
 -- the file with a whole record behind a gate
-abbrev pub behind : List ℕ → List ℕ → List ℕ
-behind p tail = to_be_bytes w32 (length p) ++ (p ++ 0 ∷ tail)
+abbrev pub record_then : List ℕ → List ℕ → List ℕ
+record_then p tail = to_be_bytes w32 (length p) ++ (p ++ 0 ∷ tail)
 
-pub behind_open : (head : List ℕ) (ps : List (List ℕ)) (p tail : List ℕ) → (head ++ records ps) ++ 1 ∷ behind p tail ≡ (head ++ records (ps ++ p ∷ [])) ++ 0 ∷ tail
+pub behind_open : (head : List ℕ) (ps : List (List ℕ)) (p tail : List ℕ) → (head ++ records ps) ++ 1 ∷ record_then p tail ≡ (head ++ records (ps ++ p ∷ [])) ++ 0 ∷ tail
 behind_open head ps p tail =
-    append_assoc head (records ps) (1 ∷ behind p tail)
+    append_assoc head (records ps) (1 ∷ record_then p tail)
     ∙ ap (λ (l : List ℕ). head ++ l) (sym (append_assoc (records ps) (1 ∷ to_be_bytes w32 (length p) ++ p) (0 ∷ tail)) ∙ ap (λ (l : List ℕ). l ++ 0 ∷ tail) (sym (records_push ps p)))
     ∙ sym (append_assoc head (records (ps ++ p ∷ [])) (0 ∷ tail))
 
@@ -99,7 +99,7 @@ pub length-pushed : (head : List ℕ) (ps : List (List ℕ)) (p : List ℕ) → 
 length-pushed head ps p = omega (arith, length-append head (records ps), length-append head (records (ps ++ p ∷ [])), ap length (records_push ps p), length-append (records ps) (1 ∷ to_be_bytes w32 (length p) ++ p), length-append (to_be_bytes w32 (length p)) p, length-be (length p))
 
 -- with the gate open it counts
-pub opened_behind : (head : List ℕ) (ps : List (List ℕ)) (p tail : List ℕ) → AllFit ps → length p ≤ 2097152 → length (head ++ records ps) + 5 + length p < 2 ^ 30 → opened head ((head ++ records ps) ++ 1 ∷ behind p tail) ≡ Some (ps ++ p ∷ [])
+pub opened_behind : (head : List ℕ) (ps : List (List ℕ)) (p tail : List ℕ) → AllFit ps → length p ≤ 4194304 → length (head ++ records ps) + 5 + length p < 2 ^ 30 → opened head ((head ++ records ps) ++ 1 ∷ record_then p tail) ≡ Some (ps ++ p ∷ [])
 opened_behind head ps p tail fit fits small =
     ap (opened head) (behind_open head ps p tail)
     ∙ opened_closed head (ps ++ p ∷ []) 0 tail (AllFit-push ps p fit fits) (omega (arith, length-pushed head ps p)) (omega arith)

@@ -24,11 +24,11 @@ pub(crate) fn fill<D: Disk>(
     requires place { at + length into.old < 2 ^ 64 }
     requires piece { (0 < piece) × (piece ≤ 2 ^ 20) }
     ensures within { IfOk result (λ n. n ≤ length into.old) }
-    ensures enough { D.tells disk.old → IfOk result (λ n. (length into.old < n + piece) ⊎ (length (drop at (D.seen disk.old)) ≤ n)) }
-    ensures few { D.tells disk.old → IfOk result (λ n. n ≤ length (drop at (D.seen disk.old))) }
-    ensures bytes { D.tells disk.old → IfOk result (λ n. take n into.new ≡ take n (drop at (D.seen disk.old))) }
-    ensures still { Still D.tells D.seen D.may_leave D.moment D.left_since disk.old disk.new }
-    ensures count { Counts (D.faults disk.old) (D.faults disk.new) result }
+    ensures enough { D.disk.tells disk.old → IfOk result (λ n. (length into.old < n + piece) ⊎ (length (drop at (D.disk.seen disk.old)) ≤ n)) }
+    ensures few { D.disk.tells disk.old → IfOk result (λ n. n ≤ length (drop at (D.disk.seen disk.old))) }
+    ensures bytes { D.disk.tells disk.old → IfOk result (λ n. take n into.new ≡ take n (drop at (D.disk.seen disk.old))) }
+    ensures still { Still D.disk disk.old disk.new }
+    ensures count { Counts (D.disk.faults disk.old) (D.disk.faults disk.new) result }
 {
     let mut done = 0;
     while done + piece <= into.len() {
@@ -43,7 +43,7 @@ pub(crate) fn fill<D: Disk>(
 
 impl Window {
     /// Nothing of a file.
-    pub(crate) fn new(alloc: Global) -> Window
+    pub fn new(alloc: Global) -> Window
         ensures { (file : List ℕ) → Shows result file }
     {
         Window {
@@ -56,7 +56,7 @@ impl Window {
 
     /// Makes room for so many bytes.
     fn grow(&mut self, size: usize) -> Result<(), AllocError>
-        requires { size ≤ 2 ^ 22 }
+        requires { size ≤ 2 ^ 23 }
         ensures { OnOk result (size ≤ vec_len self.new.bytes) }
     {
         if self.bytes.len() < size {
@@ -68,7 +68,7 @@ impl Window {
     /// Whether the bytes from a place on are there, so many or up to the file's end.
     fn has(&self, at: u64, count: usize) -> bool
         requires place { at < 2 ^ 31 }
-        requires count { count ≤ 2 ^ 21 + 1 }
+        requires count { count ≤ 2 ^ 22 + 1 }
         ensures behind { IsTrue result → self.now.from ≤ at }
         ensures covers { IsTrue result → (file : List ℕ) → Shows self.now file → Covers self.now file at count }
     {
@@ -82,21 +82,16 @@ impl Window {
     }
 
     /// Reads on, where the bytes from a place on are not all there.
-    pub(crate) fn cover<D: Disk>(
-        &mut self,
-        disk: &mut D,
-        at: u64,
-        count: usize,
-    ) -> Result<(), OpenFault>
+    pub fn cover<D: Disk>(&mut self, disk: &mut D, at: u64, count: usize) -> Result<(), OpenFault>
         requires place { at < 2 ^ 31 }
-        requires count { count ≤ 2 ^ 21 + 1 }
-        ensures shows { D.tells disk.old → Shows self.old (D.seen disk.old) → OnOk result (Shows self.new (D.seen disk.old)) }
+        requires count { count ≤ 2 ^ 22 + 1 }
+        ensures shows { D.disk.tells disk.old → Shows self.old (D.disk.seen disk.old) → OnOk result (Shows self.new (D.disk.seen disk.old)) }
         ensures behind { OnOk result (self.new.from ≤ at) }
-        ensures covers { D.tells disk.old → Shows self.old (D.seen disk.old) → OnOk result (Covers self.new (D.seen disk.old) at count) }
+        ensures covers { D.disk.tells disk.old → Shows self.old (D.disk.seen disk.old) → OnOk result (Covers self.new (D.disk.seen disk.old) at count) }
         ensures damage { IfErr result (λ e. (at : ℕ) (found : Option ℕ) → e ≢ Damaged at found) }
-        ensures still { Still D.tells D.seen D.may_leave D.moment D.left_since disk.old disk.new }
-        ensures fault { IfErr result (FaultCounts (D.faults disk.old) (D.faults disk.new)) }
-        ensures calm { OnOk result (D.faults disk.new ≡ D.faults disk.old) }
+        ensures still { Still D.disk disk.old disk.new }
+        ensures fault { IfErr result (FaultCounts (D.disk.faults disk.old) (D.disk.faults disk.new)) }
+        ensures calm { OnOk result (D.disk.faults disk.new ≡ D.disk.faults disk.old) }
     {
         if self.has(at, count) {
             return Ok(());
@@ -111,7 +106,7 @@ impl Window {
     }
 
     /// The bytes from a place on that are there, and at most so many.
-    pub(crate) fn part(&self, at: u64, count: usize) -> &[u8]
+    pub fn part(&self, at: u64, count: usize) -> &[u8]
         requires { self.now.from ≤ at }
         ensures few { length result.now ≤ count }
         ensures bytes { (file : List ℕ) → Shows self.now file → Covers self.now file at count → result.now ≡ take count (drop at file) }

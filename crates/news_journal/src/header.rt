@@ -16,6 +16,9 @@ pub enum Header {
     Receiver { name: Name },
 }
 
+/// The edition that a new log is given.
+const EDITION: u8 = 2;
+
 /// The bytes of a name, and zeros behind them.
 fn padded(name: &Name) -> [u8; 32]
     ensures form { IsTrue (is_name name.now) }
@@ -41,7 +44,7 @@ impl Header {
     {
         let mut bytes = [0; 64];
         bytes[..7].copy_from_slice(b"EWSDESK");
-        bytes[7] = 1;
+        bytes[7] = EDITION;
         match self {
             Header::Room { store } => {
                 bytes[8] = 1;
@@ -52,6 +55,16 @@ impl Header {
                 bytes[31..63].copy_from_slice(&padded(name));
             }
         }
+        bytes
+    }
+
+    /// The 64 bytes of a new log's header.
+    pub(crate) fn bytes(&self) -> [u8; 64]
+        ensures { result ≡ header_bytes self.now }
+    {
+        let behind = self.behind_first();
+        let mut bytes = [b'N'; 64];
+        bytes[1..].copy_from_slice(&behind[..63]);
         bytes
     }
 }

@@ -1,7 +1,7 @@
 //! Reading a header.
 ghost use Rattle.std.specs.Prelude.{◌≡◌, ◌≢◌, ◌<◌, ◌≤◌, ◌-◌, ◌++◌, ℕ, Some, None, IsTrue, IfOk, length, replicate, slice_index, take};
-ghost use Rattle.news_types.specs.Names.{is_name, is_name_byte};
-ghost use Rattle.news_journal.specs.Log.{header_bytes};
+ghost use Rattle.news_types.specs.Names.{is_name};
+ghost use Rattle.news_journal.specs.Log.{IsHead};
 ghost use Rattle.news_journal.specs.Damage.{may_stand, header_damage};
 ghost use Rattle.news_journal.specs.Opened.{Still, HeaderAs, IsHeaderOf, IsFilled};
 ghost use Rattle.news_io.specs.Faults.{Counts};
@@ -9,33 +9,24 @@ ghost use Rattle.news_io.specs.Faults.{Counts};
 use crate::ahead::fill;
 use crate::{Header, OpenFault};
 use news_io::{Disk, Failed};
-use news_types::Name;
+use news_types::{Name, is_name_letter};
 use uuid::Uuid;
 
 /// The bytes with which every header begins.
-const START: [u8; 9] = *b"NEWSDESK\x01";
+const START: [u8; 8] = *b"NEWSDESK";
 
 /// The kind of a room's log.
 const ROOM: u8 = 1;
-
-fn is_name_letter(byte: u8) -> bool
-    ensures { result ≡ is_name_byte byte }
-{
-    byte.is_ascii_lowercase() || byte.is_ascii_digit() || byte == b'-' || byte == b'_'
-}
 
 /// Whether a byte may stand at a place of a header of this kind, behind that byte.
 fn is_in_form(kind: u8, place: usize, before: u8, byte: u8) -> bool
     ensures { result ≡ may_stand kind place before byte }
 {
-    if place < 9 {
+    if place < 8 {
         return byte == START[place];
     }
-    if place == 9 {
+    if place < 10 {
         return byte == 1 || byte == 2;
-    }
-    if place < 16 {
-        return byte == 0;
     }
     if place < 32 {
         return kind == ROOM || byte == 0;
@@ -107,11 +98,21 @@ fn name_in(bytes: &[u8]) -> Name
     }
 }
 
+/// These bytes, of which there are 64.
+fn whole(bytes: &[u8]) -> [u8; 64]
+    requires { length bytes.now ≡ 64 }
+    ensures { result ≡ bytes.now }
+{
+    let mut head = [0; 64];
+    head.copy_from_slice(bytes);
+    head
+}
+
 /// The header in 64 bytes that are of the form.
 fn header_in(bytes: &[u8]) -> Header
     requires size { length bytes.now ≡ 64 }
     requires form { header_damage bytes.now ≡ None }
-    ensures { bytes.now ≡ header_bytes result }
+    ensures { IsHead result bytes.now }
 {
     if bytes[9] == ROOM {
         let mut store = [0; 16];
@@ -125,26 +126,29 @@ fn header_in(bytes: &[u8]) -> Header
     }
 }
 
-/// Reads a header, which has 64 bytes; these are at most as many.
-pub(crate) fn read_header(bytes: &[u8]) -> Result<Header, OpenFault>
+/// Reads a header, which has 64 bytes; these are at most as many. The answer has those bytes too.
+pub fn read_header(bytes: &[u8]) -> Result<([u8; 64], Header), OpenFault>
     requires { length bytes.now ≤ 64 }
     ensures { HeaderAs bytes.now result }
 {
     if let Some((at, found)) = damage_of_header(bytes) {
         return Err(OpenFault::Damaged { at, found });
     }
-    Ok(header_in(bytes))
+    Ok((whole(bytes), header_in(bytes)))
 }
 
 impl Header {
     /// The header on a disk, whatever stands behind it; none where the first 64 bytes are not of the form.
     pub fn read_from<D: Disk>(disk: &mut D) -> Result<Option<Header>, Failed>
-        ensures header { D.tells disk.old → IfOk result (IsHeaderOf (take 64 (D.seen disk.old))) }
-        ensures still { Still D.tells D.seen D.may_leave D.moment D.left_since disk.old disk.new }
-        ensures count { Counts (D.faults disk.old) (D.faults disk.new) result }
+        ensures header { D.disk.tells disk.old → IfOk result (IsHeaderOf (take 64 (D.disk.seen disk.old))) }
+        ensures still { Still D.disk disk.old disk.new }
+        ensures count { Counts (D.disk.faults disk.old) (D.disk.faults disk.new) result }
     {
         let mut bytes = [0; 64];
         let count = fill(disk, 0, &mut bytes, 1)?;
-        Ok(read_header(&bytes[..count]).ok())
+        match read_header(&bytes[..count]) {
+            Ok((_, header)) => Ok(Some(header)),
+            Err(_) => Ok(None),
+        }
     }
 }

@@ -1,28 +1,27 @@
 //! Appending to a log: a record is written behind the closed gate and synced before the gate is opened.
 ghost use Rattle.std.specs.Prelude.{◌≡◌, ◌⊎◌, ◌≤◌, ◌+◌, ◌^◌, ◌++◌, [], ◌∷◌, List, ℕ, Some, false, length, OnOk, OnErr};
-ghost use Rattle.news_io.specs.Disk.{Holds, Torn, Follows, Only};
+ghost use Rattle.news_io.specs.Disk.{Holds, Torn, Follows, Only, DiskGains};
 ghost use Rattle.news_io.specs.Faults.{Counts};
-ghost use Rattle.news_io.specs.Moments.{Elapses};
-ghost use Rattle.news_io.specs.Keeper.{IsFramed, payload_of, Leaves};
+ghost use Rattle.news_io.specs.Keeper.{IsFramed, payload_of, Leaves, BeforeOrAfter};
 ghost use Rattle.news_journal.specs.Calls.{CalledWithin, quieting_calls, append_calls};
-ghost use Rattle.news_journal.specs.Log.{header_bytes};
-ghost use Rattle.news_journal.specs.Stands.{disk_of, Logs, Doubts, list_of, opened_since};
-ghost use Rattle.news_journal.specs.Law.{leaves_now};
+ghost use Rattle.news_journal.specs.Log.{opened};
+ghost use Rattle.news_journal.specs.Stands.{disk_of, head_of, Logs, Doubts, list_of};
+ghost use Rattle.news_journal.specs.Journal.{journal_of};
 
 use crate::Journal;
 use news_io::{AppendFault, Disk, Failed, Keeper};
 
 /// Writes, and then syncs. After it succeeded, a crash leaves what a read gives.
-pub(crate) fn write_through<D: Disk>(disk: &mut D, at: u64, from: &[u8]) -> Result<(), Failed>
-    ensures written { D.tells disk.old → at ≤ length (D.seen disk.old) → OnOk result (Holds (D.seen disk.old) at from.now (D.seen disk.new)) }
-    ensures durable { D.tells disk.old → OnOk result (Only (D.seen disk.new) (D.may_leave disk.new)) }
-    ensures torn { Torn at (length from.now) (D.seen disk.old) (D.seen disk.new) }
-    ensures told { D.tells disk.old → D.tells disk.new }
-    ensures crash { D.tells disk.old → Follows (Torn at (length from.now)) (D.may_leave disk.old) (D.may_leave disk.new) }
-    ensures time { D.tells disk.old → Elapses (D.moment disk.old) (D.moment disk.new) (D.left_since disk.old) (D.left_since disk.new)
-        (λ c. (d : List ℕ) × D.may_leave disk.old d × Torn at (length from.now) d c) }
-    ensures count { Counts (D.faults disk.old) (D.faults disk.new) result }
-    ensures calls { CalledWithin 2 (D.calls disk.old) (D.calls disk.new) }
+pub fn write_through<D: Disk>(disk: &mut D, at: u64, from: &[u8]) -> Result<(), Failed>
+    ensures written { D.disk.tells disk.old → at ≤ length (D.disk.seen disk.old) → OnOk result (Holds (D.disk.seen disk.old) at from.now (D.disk.seen disk.new)) }
+    ensures durable { D.disk.tells disk.old → OnOk result (Only (D.disk.seen disk.new) (D.disk.may_leave disk.new)) }
+    ensures torn { Torn at (length from.now) (D.disk.seen disk.old) (D.disk.seen disk.new) }
+    ensures told { D.disk.tells disk.old → D.disk.tells disk.new }
+    ensures crash { D.disk.tells disk.old → Follows (Torn at (length from.now)) (D.disk.may_leave disk.old) (D.disk.may_leave disk.new) }
+    ensures time { D.disk.tells disk.old → DiskGains D.disk disk.old disk.new
+        (λ c. (d : List ℕ) × D.disk.may_leave disk.old d × Torn at (length from.now) d c) }
+    ensures count { Counts (D.disk.faults disk.old) (D.disk.faults disk.new) result }
+    ensures calls { CalledWithin 2 (D.disk.calls disk.old) (D.disk.calls disk.new) }
 {
     disk.write_at(at, from)?;
     disk.sync()
@@ -36,18 +35,24 @@ impl<D: Disk> Journal<D> {
         self.disk
     }
 
+    /// The header's bytes.
+    pub fn head(&self) -> &[u8; 64]
+        ensures { result.now ≡ head_of self.now }
+    {
+        &self.head
+    }
+
     /// Closes the gate where an append that failed may have left it open.
     fn quiet(&mut self) -> Result<(), Failed>
-        ensures logs { (ps : List (List ℕ)) → Logs D.tells D.seen D.may_leave self.old ps → Logs D.tells D.seen D.may_leave self.new ps }
-        ensures doubts { (ps : List (List ℕ)) → Logs D.tells D.seen D.may_leave self.old ps → (x : List ℕ) → Doubts D.tells D.seen D.may_leave self.new ps x → Doubts D.tells D.seen D.may_leave self.old ps x }
+        ensures logs { (ps : List (List ℕ)) → Logs D.disk self.old ps → Logs D.disk self.new ps }
+        ensures doubts { (ps : List (List ℕ)) → Logs D.disk self.old ps → (x : List ℕ) → Doubts D.disk self.new ps x → Doubts D.disk self.old ps x }
         ensures shut { OnOk result (self.new.ajar ≡ false) }
         ensures gate { self.new.gate ≡ self.old.gate }
-        ensures header { self.new.header ≡ self.old.header }
-        ensures crash { (ps : List (List ℕ)) → Logs D.tells D.seen D.may_leave self.old ps → Elapses (D.moment self.old.disk) (D.moment self.new.disk)
-            (opened_since D.left_since (header_bytes self.old.header) self.old.disk) (opened_since D.left_since (header_bytes self.old.header) self.new.disk)
-            (Leaves ps (Doubts D.tells D.seen D.may_leave self.old ps)) }
-        ensures count { Counts (D.faults self.old.disk) (D.faults self.new.disk) result }
-        ensures calls { CalledWithin (quieting_calls self.old.ajar) (D.calls self.old.disk) (D.calls self.new.disk) }
+        ensures head { self.new.head ≡ self.old.head }
+        ensures crash { (ps : List (List ℕ)) → Logs D.disk self.old ps → DiskGains D.disk self.old.disk self.new.disk
+            (λ (c : List ℕ). Leaves ps (Doubts D.disk self.old ps) (opened self.old.head c)) }
+        ensures count { Counts (D.disk.faults self.old.disk) (D.disk.faults self.new.disk) result }
+        ensures calls { CalledWithin (quieting_calls self.old.ajar) (D.disk.calls self.old.disk) (D.disk.calls self.new.disk) }
     {
         if self.ajar {
             write_through(&mut self.disk, self.gate, &[0])?;
@@ -57,25 +62,24 @@ impl<D: Disk> Journal<D> {
     }
 
     /// Writes the record behind the closed gate, and then opens the gate.
-    fn keep(&mut self, framed: &[u8]) -> Result<(), Failed>
+    pub fn keep(&mut self, framed: &[u8]) -> Result<(), Failed>
         requires framed { IsFramed framed.now }
         requires room { self.old.gate + 1 + length framed.now ≤ 2 ^ 30 }
         requires shut { self.old.ajar ≡ false }
-        ensures logs { (ps : List (List ℕ)) → Logs D.tells D.seen D.may_leave self.old ps → OnOk result (Logs D.tells D.seen D.may_leave self.new (ps ++ payload_of framed.now ∷ [])) }
-        ensures logs_err { (ps : List (List ℕ)) → Logs D.tells D.seen D.may_leave self.old ps → OnErr result (Logs D.tells D.seen D.may_leave self.new ps) }
-        ensures doubts { (ps : List (List ℕ)) → Logs D.tells D.seen D.may_leave self.old ps → OnErr result ((x : List ℕ) → Doubts D.tells D.seen D.may_leave self.new ps x → x ≡ payload_of framed.now) }
+        ensures logs { (ps : List (List ℕ)) → Logs D.disk self.old ps → OnOk result (Logs D.disk self.new (ps ++ payload_of framed.now ∷ [])) }
+        ensures logs_err { (ps : List (List ℕ)) → Logs D.disk self.old ps → OnErr result (Logs D.disk self.new ps) }
+        ensures doubts { (ps : List (List ℕ)) → Logs D.disk self.old ps → OnErr result ((x : List ℕ) → Doubts D.disk self.new ps x → x ≡ payload_of framed.now) }
+        ensures durable { D.disk.tells self.old.disk → OnOk result (Only (D.disk.seen self.new.disk) (D.disk.may_leave self.new.disk)) }
         ensures shut { OnOk result (self.new.ajar ≡ false) }
         ensures gate { OnOk result (self.new.gate ≡ self.old.gate + length framed.now) }
         ensures gate_err { OnErr result (self.new.gate ≡ self.old.gate) }
-        ensures header { self.new.header ≡ self.old.header }
-        ensures crash { (ps : List (List ℕ)) → Logs D.tells D.seen D.may_leave self.old ps → OnOk result (Elapses (D.moment self.old.disk) (D.moment self.new.disk)
-            (opened_since D.left_since (header_bytes self.old.header) self.old.disk) (opened_since D.left_since (header_bytes self.old.header) self.new.disk)
-            (λ found. (found ≡ Some ps) ⊎ (found ≡ Some (ps ++ payload_of framed.now ∷ [])))) }
-        ensures crash_err { (ps : List (List ℕ)) → Logs D.tells D.seen D.may_leave self.old ps → OnErr result (Elapses (D.moment self.old.disk) (D.moment self.new.disk)
-            (opened_since D.left_since (header_bytes self.old.header) self.old.disk) (opened_since D.left_since (header_bytes self.old.header) self.new.disk)
-            (Leaves ps (Doubts D.tells D.seen D.may_leave self.new ps))) }
-        ensures count { Counts (D.faults self.old.disk) (D.faults self.new.disk) result }
-        ensures calls { CalledWithin 4 (D.calls self.old.disk) (D.calls self.new.disk) }
+        ensures head { self.new.head ≡ self.old.head }
+        ensures crash { (ps : List (List ℕ)) → Logs D.disk self.old ps → OnOk result (DiskGains D.disk self.old.disk self.new.disk
+            (λ (c : List ℕ). (opened self.old.head c ≡ Some ps) ⊎ (opened self.old.head c ≡ Some (ps ++ payload_of framed.now ∷ [])))) }
+        ensures crash_err { (ps : List (List ℕ)) → Logs D.disk self.old ps → OnErr result (DiskGains D.disk self.old.disk self.new.disk
+            (λ (c : List ℕ). Leaves ps (Doubts D.disk self.new ps) (opened self.old.head c))) }
+        ensures count { Counts (D.disk.faults self.old.disk) (D.disk.faults self.new.disk) result }
+        ensures calls { CalledWithin 4 (D.disk.calls self.old.disk) (D.disk.calls self.new.disk) }
     {
         write_through(&mut self.disk, self.gate + 1, framed)?;
         self.ajar = true;
@@ -84,28 +88,34 @@ impl<D: Disk> Journal<D> {
         self.gate += framed.len() as u64;
         Ok(())
     }
+
+    /// Adds a record behind the last one, for which there is room.
+    pub fn add(&mut self, framed: &[u8]) -> Result<(), Failed>
+        requires framed { IsFramed framed.now }
+        requires room { self.old.gate + 1 + length framed.now ≤ 2 ^ 30 }
+        ensures told { Logs D.disk self.old (list_of D.disk self.old) → Logs D.disk self.new (list_of D.disk self.new) }
+        ensures kept { Logs D.disk self.old (list_of D.disk self.old) → OnOk result (list_of D.disk self.new ≡ list_of D.disk self.old ++ payload_of framed.now ∷ []) }
+        ensures same { Logs D.disk self.old (list_of D.disk self.old) → OnErr result (list_of D.disk self.new ≡ list_of D.disk self.old) }
+        ensures doubts { Logs D.disk self.old (list_of D.disk self.old) → OnErr result ((x : List ℕ) → Doubts D.disk self.new (list_of D.disk self.new) x
+            → Doubts D.disk self.old (list_of D.disk self.old) x ⊎ (x ≡ payload_of framed.now)) }
+        ensures shut { OnOk result (self.new.ajar ≡ false) }
+        ensures gate { OnOk result (self.new.gate ≡ self.old.gate + length framed.now) }
+        ensures gate_err { OnErr result (self.new.gate ≡ self.old.gate) }
+        ensures head { self.new.head ≡ self.old.head }
+        ensures crash { Logs D.disk self.old (list_of D.disk self.old) → DiskGains D.disk self.old.disk self.new.disk
+            (λ (c : List ℕ). BeforeOrAfter (list_of D.disk self.old) (Doubts D.disk self.old (list_of D.disk self.old))
+            (list_of D.disk self.new) (Doubts D.disk self.new (list_of D.disk self.new)) (opened self.old.head c)) }
+        ensures count { Counts (D.disk.faults self.old.disk) (D.disk.faults self.new.disk) result }
+        ensures calls { CalledWithin (append_calls self.old.ajar) (D.disk.calls self.old.disk) (D.disk.calls self.new.disk) }
+    {
+        self.quiet()?;
+        self.keep(framed)?;
+        Ok(())
+    }
 }
 
 impl<D: Disk> Keeper for Journal<D> {
-    ghost faults = { λ j. D.faults j.disk };
-
-    ghost calls = { λ j. D.calls j.disk };
-
-    ghost most_calls = { λ j. append_calls j.ajar };
-
-    ghost used = { λ j. j.gate + 1 };
-
-    ghost tells = { λ j. Logs D.tells D.seen D.may_leave j (list_of D.seen j) };
-
-    ghost list = { λ j. list_of D.seen j };
-
-    ghost doubts = { λ j. Doubts D.tells D.seen D.may_leave j (list_of D.seen j) };
-
-    ghost moment = { λ j. D.moment j.disk };
-
-    ghost left_since = { λ j. opened_since D.left_since (header_bytes j.header) j.disk };
-
-    ghost leaves_now = { λ j found logs left. leaves_now D.tells D.seen D.may_leave D.moment D.left_since D.only_now j found logs left };
+    ghost keeper = { journal_of D.disk };
 
     fn size(&self) -> u64 {
         self.gate + 1
@@ -119,8 +129,7 @@ impl<D: Disk> Keeper for Journal<D> {
                 length: length - 5,
             });
         }
-        self.quiet()?;
-        self.keep(framed)?;
+        self.add(framed)?;
         Ok(())
     }
 }

@@ -12,9 +12,12 @@ mod records;
 mod window;
 
 pub use header::Header;
+pub use heading::read_header;
+pub use keeping::write_through;
 pub use log::{Journal, OpenFault};
-pub use opening::Opened;
+pub use opening::{Opened, read_records};
 pub use records::Records;
+pub use window::Window;
 
 #[cfg(test)]
 mod tests;

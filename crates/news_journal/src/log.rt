@@ -2,7 +2,6 @@
 ghost use Rattle.std.specs.Prelude.{◌^◌, ◌<◌, ◌≡◌, false};
 ghost use Rattle.news_journal.specs.declared.log.OpenFault.TheVariants.{DiskFault, Memory};
 
-use crate::Header;
 use news_io::Failed;
 use std::alloc::{AllocError, AllocFailed};
 
@@ -10,7 +9,8 @@ use std::alloc::{AllocError, AllocFailed};
 #[derive(Drop)]
 pub struct Journal<D> {
     pub(crate) disk: D,
-    pub(crate) header: Header,
+    /// The header's bytes.
+    pub(crate) head: [u8; 64],
     /// The place of the first gate that is not open.
     pub(crate) gate: u64,
     /// Whether a crash may find that gate open, although its record does not count yet.
@@ -20,16 +20,16 @@ pub struct Journal<D> {
 
 impl<D> Journal<D> {
     /// The journal whose closed gate stands at this place.
-    pub(crate) fn at_gate(disk: D, header: &Header, gate: u64) -> Journal<D>
+    pub fn at_gate(disk: D, head: [u8; 64], gate: u64) -> Journal<D>
         requires { gate < 2 ^ 30 }
         ensures disk { result.disk ≡ disk }
-        ensures header { result.header ≡ header.now }
+        ensures head { result.head ≡ head }
         ensures gate { result.gate ≡ gate }
         ensures ajar { result.ajar ≡ false }
     {
         Journal {
             disk,
-            header: *header,
+            head,
             gate,
             ajar: false,
         }

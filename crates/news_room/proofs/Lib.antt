@@ -1,9 +1,11 @@
-pub mod Records
-pub mod Lists
-pub mod Crashes
-pub mod Steps
-pub mod Rooms
 pub mod Appends
+pub mod Crashes
 pub mod Decisions
+pub mod Going
 pub mod Legal
+pub mod Lists
 pub mod Openings
+pub mod Records
+pub mod Rooms
+pub mod Small
+pub mod Steps

@@ -1,5 +1,5 @@
 -- No two lists have the same records.
-use Rattle.std.proofs.Common.{◌≡◌, List, [], ◌∷◌, ◌++◌, length, length-append, refl, sym, ap, arith, Option, Some, None}
+use Rattle.std.proofs.Common.{◌≡◌, List, [], ◌∷◌, ◌++◌, length, length-append, refl, sym, ap, arith}
 use Rattle.news_types.specs.declared.entry.Entry.{Entry}
 use Rattle.news_types.specs.Names.{Bytes}
 use Rattle.news_types.specs.History.{History}
@@ -9,7 +9,7 @@ use Rattle.entry_codec.specs.Spelling.{entry_bytes}
 use Rattle.entry_codec.specs.Formed.{IsEntry}
 use Rattle.entry_codec.specs.Commands.{entry}
 use Rattle.entry_codec.proofs.EntryLaws.{entry_lawful}
-use Rattle.news_room.specs.Log.{payloads, IsKept, Opens}
+use Rattle.news_types.specs.Doubt.{payloads}
 
 never_empty : (xs : List Bytes) (x : Bytes) → xs ++ x ∷ [] ≡ [] → ⊥
 never_empty [] x is = cc
@@ -30,21 +30,16 @@ last_is (z ∷ xs) (w ∷ ys) x y is =
 pub same_entry : (a b : Entry) → IsEntry a → IsEntry b → entry_bytes a ≡ entry_bytes b → a ≡ b
 same_entry = one_spelling entry IsEntry entry_lawful
 
-pub same_list : (h g : History) → Each IsEntry h → Each IsEntry g → payloads h ≡ payloads g → h ≡ g
+pub same_list : (h g : History) → Each IsEntry h → Each IsEntry g → payloads entry_bytes h ≡ payloads entry_bytes g → h ≡ g
 same_list [] [] p q is = refl
-same_list [] (f ∷ g) p q is = absurd (never_empty (payloads g) (entry_bytes f) (sym is))
-same_list (e ∷ h) [] p q is = absurd (never_empty (payloads h) (entry_bytes e) is)
+same_list [] (f ∷ g) p q is = absurd (never_empty (payloads entry_bytes g) (entry_bytes f) (sym is))
+same_list (e ∷ h) [] p q is = absurd (never_empty (payloads entry_bytes h) (entry_bytes e) is)
 same_list (e ∷ h) (f ∷ g) p q is =
-    let both = last_is (payloads h) (payloads g) (entry_bytes e) (entry_bytes f) is in
+    let both = last_is (payloads entry_bytes h) (payloads entry_bytes g) (entry_bytes e) (entry_bytes f) is in
     let rest : h ≡ g = same_list h g p.1 q.1 both.0 in
     let first : e ≡ f = same_entry e f p.0 q.0 both.1 in
     cc
 
--- the records of a list open to that list, and to no other
-pub opens_it : (h : History) → IsKept h → (found : Option History) → Opens (Some (payloads h)) found → found ≡ Some h
-opens_it h kept None opens = absurd (opens h (record { is = refl; kept = kept }))
-opens_it h kept (Some g) opens = ap (λ (l : History). Some l) (sym (same_list h g kept.formed opens.kept.formed opens.is))
-
-pub counted : (h : History) → length (payloads h) ≡ length h
+pub counted : (h : History) → length (payloads entry_bytes h) ≡ length h
 counted [] = refl
-counted (e ∷ h) = omega (arith, length-append (payloads h) (entry_bytes e ∷ []), counted h)
+counted (e ∷ h) = omega (arith, length-append (payloads entry_bytes h) (entry_bytes e ∷ []), counted h)

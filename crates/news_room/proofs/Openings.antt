@@ -10,12 +10,14 @@ use Rattle.byte_formats.specs.Faults.{IsFaultAt}
 use Rattle.entry_codec.specs.Spelling.{entry_bytes}
 use Rattle.entry_codec.specs.Formed.{IsEntry}
 use Rattle.newsroom.specs.declared.newsroom.Newsroom.{Newsroom}
-use Rattle.news_room.specs.Log.{payloads, IsKept}
+use Rattle.news_types.specs.Doubt.{payloads}
+use Rattle.news_room.specs.Log.{IsStored}
 use Rattle.news_room.specs.Stands.{Tells}
 use Rattle.news_room.specs.Opening.{bytes_of, IsFault, HasRead, Takes, Keeps, IsOpened}
 use Rattle.news_room.specs.declared.answers.RoomFault.{RoomFault}
 use Rattle.news_room.specs.declared.room.Room.{Room}
 use Rattle.news_room.proofs.Lists.{counted}
+use Rattle.news_io.specs.Keeper.{KeeperMeaning}
 
 -- ---- one record
 
@@ -30,14 +32,14 @@ no_entry_told n h r payload place fault same wrong is =
     }))
 
 pub entry_told : (n : Newsroom) (h : History) (r : Record) (payload : Bytes) (e : Entry) (kept : Result (Unit {0}) RoomFault) → payload ≡ r.bytes → IsEntry e → payload ≡ entry_bytes e
-    → IsKept h → Keeps n h r.at e kept → Takes n h r kept
+    → IsStored h → Keeps n h r.at e kept → Takes n h r kept
 entry_told n h r payload e (Ok u) same entry is before told =
-    (e, sym same ∙ is, record { legal = told.0; formed = (entry, before.formed); built = (before.built, told.1) }, told.2)
+    (e, sym same ∙ is, record { legal = told.0; formed = (entry, before.formed) }, told.1)
 entry_told n h r payload e (Err (RoomFault.Damaged at found)) same entry is before told = inr (record {
   next = e;
   is = sym same ∙ is;
   entry = entry;
-  unlawful = λ kept. told.unlawful kept.legal kept.built.1;
+  unlawful = λ kept. told.unlawful kept.legal;
   at_is = told.at_is;
   found_is = told.found_is;
 })
@@ -64,7 +66,7 @@ module _ (records : List Record) (i : ℕ) where
         → (g : History) × HasRead n' (map bytes_of (take (i + 1) records)) g
     read_more n n' h read told =
         let e = told.0 in
-        let next : before ++ r.bytes ∷ [] ≡ payloads h ++ entry_bytes e ∷ [] = ap (λ (l : List Bytes). l ++ r.bytes ∷ []) read.opens.is ∙ ap (λ (b : Bytes). payloads h ++ b ∷ []) told.1 in
+        let next : before ++ r.bytes ∷ [] ≡ payloads entry_bytes h ++ entry_bytes e ∷ [] = ap (λ (l : List Bytes). l ++ r.bytes ∷ []) read.opens.is ∙ ap (λ (b : Bytes). payloads entry_bytes h ++ b ∷ []) told.1 in
         (e ∷ h, record { opens = record { is = one_more ∙ next; kept = told.2 }; stands = told.3 })
 
     here : records ≡ take i records ++ r ∷ drop (suc i) records
@@ -80,10 +82,10 @@ read_all records i n h past read = subst (λ (l : List Record). HasRead n (map b
 
 -- ---- the room
 
-module _ {K : Type 0} (used : K → ℕ) (tells : K → Type 0) (list : K → List Bytes) (doubts : K → Bytes → Type 0) where
-  pub opened : (keeper : K) (store : Bytes) (records : List Record) (r : Room K) (h : History) → r.keeper ≡ keeper → r.store ≡ store → length records < 2147483648
-      → HasRead r.machine (map bytes_of records) h → IsOpened used tells list doubts keeper store records r
-  opened keeper store records r h same stored few read = record {
+module _ {K : Type 0} (keeper : KeeperMeaning K) where
+  pub opened : (k : K) (store : Bytes) (records : List Record) (r : Room K) (h : History) → r.keeper ≡ k → r.store ≡ store → length records < 2147483648
+      → HasRead r.machine (map bytes_of records) h → IsOpened keeper k store records r
+  opened k store records r h same stored few read = record {
     keeper_is = same;
     history = h;
     opens = read.opens;
@@ -92,6 +94,6 @@ module _ {K : Type 0} (used : K → ℕ) (tells : K → Type 0) (list : K → Li
       machine_for = read.stands;
       kept = read.opens.kept;
       few = omega (arith, few, counted h, ap length read.opens.is, length-map records bytes_of);
-      told = λ t. subst (λ (k : K). Tells used tells list doubts k h) (sym same) (tells_it t);
+      told = λ t. subst (λ (x : K). Tells keeper x h) (sym same) (tells_it t);
     };
   }

@@ -1,5 +1,6 @@
 -- A room behind what its keeper did.
-use Rattle.std.proofs.Common.{◌≡◌, ℕ, ◌+◌, ◌<◌, ◌≤◌, min, true, List, [], ◌∷◌, ◌∙◌, arith}
+use Rattle.std.specs.Prelude.{Result, IfOk}
+use Rattle.std.proofs.Common.{◌≡◌, Ok, Err, ℕ, ◌+◌, ◌<◌, ◌≤◌, min, true, List, [], ◌∷◌, ◌∙◌, arith}
 use Rattle.news_types.specs.declared.entry.Entry.{Entry}
 use Rattle.news_types.specs.Names.{Bytes}
 use Rattle.news_types.specs.History.{History, moment, moment_at}
@@ -7,15 +8,16 @@ use Rattle.news_types.specs.Books.{Book, onto}
 use Rattle.news_types.specs.Members.{Each}
 use Rattle.entry_codec.specs.Formed.{IsEntry}
 use Rattle.newsroom.specs.Stands.{StandsFor}
-use Rattle.news_room.specs.Log.{size_of, IsKept}
-use Rattle.news_room.specs.Stands.{Stands, Tells, LIMIT}
+use Rattle.news_room.specs.Log.{size_of, IsStored}
+use Rattle.news_room.specs.Stands.{Stands, Tells, LAST}
 use Rattle.news_room.specs.declared.room.Room.{Room}
+use Rattle.news_io.specs.Keeper.{KeeperMeaning}
 
-module _ {K : Type 0} (used : K → ℕ) (tells : K → Type 0) (list : K → List Bytes) (doubts : K → Bytes → Type 0) where
+module _ {K : Type 0} (keeper : KeeperMeaning K) where
   -- with one entry more
-  pub stands_more : (r r' : Room K) (b : Book) (e : Entry) (count : ℕ) → Stands used tells list doubts r b → r'.store ≡ r.store → StandsFor r'.machine (e ∷ b.list) → IsKept (e ∷ b.list)
-      → count ≡ size_of e → used r'.keeper ≡ used r.keeper + count → used r'.keeper ≤ LIMIT → (b.told ≡ true → Tells used tells list doubts r'.keeper (e ∷ b.list))
-      → Stands used tells list doubts r' (onto (e ∷ []) b)
+  pub stands_more : (r r' : Room K) (b : Book) (e : Entry) (count : ℕ) → Stands keeper r b → r'.store ≡ r.store → StandsFor r'.machine (e ∷ b.list) → IsStored (e ∷ b.list)
+      → count ≡ size_of e → keeper.used r'.keeper ≡ keeper.used r.keeper + count → keeper.used r'.keeper ≤ LAST → (b.told ≡ true → Tells keeper r'.keeper (e ∷ b.list))
+      → Stands keeper r' (onto (e ∷ []) b)
   stands_more r r' b e count is store machine kept size grown within told = record {
     store_is = store ∙ is.store_is;
     machine_for = machine;
@@ -25,8 +27,8 @@ module _ {K : Type 0} (used : K → ℕ) (tells : K → Type 0) (list : K → Li
   }
 
   -- with none more
-  pub stands_same : (r r' : Room K) (b : Book) → Stands used tells list doubts r b → r'.store ≡ r.store → StandsFor r'.machine b.list
-      → used r'.keeper ≡ used r.keeper → (b.told ≡ true → Tells used tells list doubts r'.keeper b.list) → Stands used tells list doubts r' b
+  pub stands_same : (r r' : Room K) (b : Book) → Stands keeper r b → r'.store ≡ r.store → StandsFor r'.machine b.list
+      → keeper.used r'.keeper ≡ keeper.used r.keeper → (b.told ≡ true → Tells keeper r'.keeper b.list) → Stands keeper r' b
   stands_same r r' b is store machine same told = record {
     store_is = store ∙ is.store_is;
     machine_for = machine;
@@ -46,3 +48,8 @@ moment_fits (e ∷ h) now formed = omega (arith, formed.0.fits.moment)
 
 pub moment_later : (h : History) (now : ℕ) → moment h ≤ moment_at h now
 moment_later h now = omega arith
+
+-- an answer of which something follows
+pub ok_weaker : {A E : Type 0} (r : Result A E) (P Q : A → Type 0) → ((x : A) → P x → Q x) → IfOk r P → IfOk r Q
+ok_weaker (Ok x) P Q more is = more x is
+ok_weaker (Err e) P Q more is = tt

@@ -38,7 +38,7 @@ one_refused n limit e count told_size told_length size calm same past size_is le
 -- a request that is not denied is kept, and so answered as the list answers it
 pub kept_answers : (n : Beside) (b : Book) (m : ℕ) (act : Act) (more : List Entry) (o : Outcome outcome.Answered) (answered : Answered) → o ≡ kept b.list m act → KeepStep n b (entry_of m act) more answered → Answers n more o answered
 kept_answers n b m act more o (Answered.Done reply) is step =
-    (ap (λ (x : Outcome outcome.Answered). x.answer) is ∙ ap (λ r. Done r) (sym step.0), subst (λ (x : Outcome outcome.Answered). Given n (entries x.more) more) (sym is) step.1)
+    (ap (λ (x : Outcome outcome.Answered). x.answer) is ∙ ap (λ r. Done r) (sym step.0), subst (λ (x : Outcome outcome.Answered). Given n LIMIT (entries x.more) more) (sym is) step.1)
 kept_answers n b m act more o Answered.Fault is step = subst (λ (x : Outcome outcome.Answered). Failed n LIMIT (entries x.more) more) (sym is) step
 kept_answers n b m act more o (Answered.Full size count) is step = subst (λ (x : Outcome outcome.Answered). Refused n LIMIT (entries x.more) more size count) (sym is) step
 kept_answers n b m act more o Answered.Memory is step = step
@@ -46,5 +46,8 @@ kept_answers n b m act more o (Answered.Repeat reply) is step = absurd step
 kept_answers n b m act more o (Answered.Denied denial) is step = absurd step
 
 -- nothing follows, and nothing was kept
-pub none_given : (n : Beside) (o : Outcome outcome.Answered) → o.more ≡ None → n.later_faults ≡ n.faults → n.later_used ≡ n.used → Given n (entries o.more) []
-none_given n o none calm same = subst (λ (x : Option Entry). Given n (entries x) []) (sym none) (record { whole = none_kept n calm same; within = tt })
+pub nothing_given : (n : Beside) (limit : ℕ) (should : List Entry) → should ≡ [] → n.later_faults ≡ n.faults → n.later_used ≡ n.used → Given n limit should []
+nothing_given n limit should none calm same = record { whole = record { is = sym none; calm = calm; grown = omega (arith, same) }; within = tt }
+
+pub none_given : (n : Beside) (o : Outcome outcome.Answered) → o.more ≡ None → n.later_faults ≡ n.faults → n.later_used ≡ n.used → Given n LIMIT (entries o.more) []
+none_given n o none calm same = nothing_given n LIMIT (entries o.more) (ap (λ (x : Option Entry). entries x) none) calm same

@@ -1,6 +1,6 @@
-pub mod Log
-pub mod Beside
-pub mod Stands
 pub mod Appends
-pub mod Steps
+pub mod Beside
+pub mod Log
 pub mod Opening
+pub mod Stands
+pub mod Steps

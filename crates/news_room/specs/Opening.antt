@@ -1,5 +1,5 @@
 -- What opening a room from records answers.
-use Rattle.std.specs.Prelude.{◌≡◌, ◌⊎◌, ℕ, ◌+◌, Bool, true, IsTrue, List, ◌∷◌, ◌++◌, map, slice_get, Option, Some, Result, Ok, Err}
+use Rattle.std.specs.Prelude.{◌≡◌, ◌⊎◌, ℕ, ◌+◌, Bool, true, List, ◌∷◌, ◌++◌, map, slice_get, Option, Some, Result, Ok, Err}
 use Rattle.news_types.specs.declared.entry.Entry.{Entry}
 use Rattle.news_types.specs.Names.{Bytes}
 use Rattle.news_types.specs.History.{History}
@@ -8,13 +8,13 @@ use Rattle.news_io.specs.declared.record.Record.{Record}
 use Rattle.byte_formats.specs.Faults.{IsFaultAt}
 use Rattle.entry_codec.specs.Spelling.{entry_bytes}
 use Rattle.entry_codec.specs.Formed.{IsEntry}
-use Rattle.newsroom.specs.Built.{is_built_act}
 use Rattle.newsroom.specs.Stands.{StandsFor}
 use Rattle.newsroom.specs.declared.newsroom.Newsroom.{Newsroom}
-use Rattle.news_room.specs.Log.{IsKept, OpensTo}
+use Rattle.news_room.specs.Log.{IsStored, OpensTo}
 use Rattle.news_room.specs.Stands.{Tells, Stands}
 use Rattle.news_room.specs.declared.answers.RoomFault.{RoomFault}
 use Rattle.news_room.specs.declared.room.Room.{Room}
+use Rattle.news_io.specs.Keeper.{KeeperMeaning}
 
 abbrev pub bytes_of : Record → Bytes
 bytes_of r = r.bytes
@@ -26,12 +26,12 @@ pub record IsNoEntry (r : Record) (at : ℕ) (found : Option ℕ) : Type 0 where
   pub at_is : at ≡ r.at + 5 + place
   pub found_is : found ≡ slice_get r.bytes place
 
--- the entry may not follow the list, or cannot be done: the place of the record's gate, which is 1
+-- the entry may not follow the list: the place of the record's gate, which is 1
 pub record IsUnlawful (h : History) (r : Record) (at : ℕ) (found : Option ℕ) : Type 0 where
   pub next : Entry
   pub is : r.bytes ≡ entry_bytes next
   pub entry : IsEntry next
-  pub unlawful : IsKept (next ∷ h) → ⊥
+  pub unlawful : IsStored (next ∷ h) → ⊥
   pub at_is : at ≡ r.at
   pub found_is : found ≡ Some 1
 
@@ -59,18 +59,18 @@ pub record HasRead (n : Newsroom) (records : List Bytes) (h : History) : Type 0 
 
 -- what one more record is to a machine that stands for a list
 abbrev pub Takes : Newsroom → History → Record → Result (Unit {0}) RoomFault → Type 0
-Takes n h r (Ok u) = (e : Entry) × (r.bytes ≡ entry_bytes e) × IsKept (e ∷ h) × StandsFor n (e ∷ h)
+Takes n h r (Ok u) = (e : Entry) × (r.bytes ≡ entry_bytes e) × IsStored (e ∷ h) × StandsFor n (e ∷ h)
 Takes n h r (Err (RoomFault.Damaged at found)) = IsDamage h r at found
 Takes n h r (Err RoomFault.Memory) = Unit {0}
 
 -- what an entry is to a machine that stands for a list: its record's gate is there, where it may not follow
 pub record IsRefused (h : History) (gate : ℕ) (e : Entry) (at : ℕ) (found : Option ℕ) : Type 0 where
-  pub unlawful : IsLegal (e ∷ h) → IsTrue (is_built_act e.act) → ⊥
+  pub unlawful : IsLegal (e ∷ h) → ⊥
   pub at_is : at ≡ gate
   pub found_is : found ≡ Some 1
 
 abbrev pub Keeps : Newsroom → History → ℕ → Entry → Result (Unit {0}) RoomFault → Type 0
-Keeps n h gate e (Ok u) = IsLegal (e ∷ h) × IsTrue (is_built_act e.act) × StandsFor n (e ∷ h)
+Keeps n h gate e (Ok u) = IsLegal (e ∷ h) × StandsFor n (e ∷ h)
 Keeps n h gate e (Err (RoomFault.Damaged at found)) = IsRefused h gate e at found
 Keeps n h gate e (Err RoomFault.Memory) = Unit {0}
 
@@ -80,13 +80,13 @@ Reads records (Ok n) = (h : History) × HasRead n (map bytes_of records) h
 Reads records (Err fault) = IsFault records fault
 
 -- the room stands for the list of the records, in this store; told, where the keeper tells that list
-module _ {K : Type 0} (used : K → ℕ) (tells : K → Type 0) (list : K → List Bytes) (doubts : K → Bytes → Type 0) where
-  pub record IsOpened (keeper : K) (store : Bytes) (records : List Record) (r : Room K) : Type 0 where
-    pub keeper_is : r.keeper ≡ keeper
+module _ {K : Type 0} (keeper : KeeperMeaning K) where
+  pub record IsOpened (k : K) (store : Bytes) (records : List Record) (r : Room K) : Type 0 where
+    pub keeper_is : r.keeper ≡ k
     pub history : History
     pub opens : OpensTo (map bytes_of records) history
-    pub stands : (told : Bool) → (told ≡ true → Tells used tells list doubts keeper history) → Stands used tells list doubts r (record { store = store; told = told; list = history })
+    pub stands : (told : Bool) → (told ≡ true → Tells keeper k history) → Stands keeper r (record { store = store; told = told; list = history })
 
   abbrev pub Opened : K → Bytes → List Record → Result (Room K) (K × RoomFault) → Type 0
-  Opened keeper store records (Ok r) = IsOpened keeper store records r
-  Opened keeper store records (Err given) = (given.0 ≡ keeper) × IsFault records given.1
+  Opened k store records (Ok r) = IsOpened k store records r
+  Opened k store records (Err given) = (given.0 ≡ k) × IsFault records given.1

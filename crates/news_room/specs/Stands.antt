@@ -1,14 +1,17 @@
 -- What a room stands for.
-use Rattle.std.specs.Prelude.{◌≡◌, ℕ, ◌+◌, ◌≤◌, min, true, List, ◌∷◌, length, Option}
+use Rattle.std.specs.Prelude.{◌≡◌, ℕ, ◌+◌, ◌≤◌, min, true, List, ◌∷◌, length}
 use Rattle.news_types.specs.declared.entry.Entry.{Entry}
 use Rattle.news_types.specs.Names.{Bytes}
 use Rattle.news_types.specs.History.{History}
 use Rattle.news_types.specs.Books.{Book}
 use Rattle.entry_codec.specs.Spelling.{entry_bytes}
+use Rattle.entry_codec.specs.Formed.{IsEntry}
 use Rattle.newsroom.specs.Stands.{StandsFor}
-use Rattle.news_room.specs.Log.{payloads, IsKept, Opens}
+use Rattle.news_types.specs.Doubt.{payloads}
+use Rattle.news_room.specs.Log.{IsStored}
 use Rattle.news_room.specs.Beside.{Beside, beside}
 use Rattle.news_room.specs.declared.room.Room.{Room}
+use Rattle.news_io.specs.Keeper.{KeeperMeaning}
 
 -- the bytes that requests may use, and those that a log may have
 abbrev pub LIMIT : ℕ
@@ -19,34 +22,30 @@ LAST = 1073741824
 
 -- a payload that a crash may leave behind the list is that of an entry which may follow it
 abbrev pub MayFollow : History → Bytes → Type 0
-MayFollow h payload = (e : Entry) × (payload ≡ entry_bytes e) × IsKept (e ∷ h)
+MayFollow h payload = (e : Entry) × (payload ≡ entry_bytes e) × IsStored (e ∷ h)
 
-module _ {K : Type 0} (used : K → ℕ) (tells : K → Type 0) (list : K → List Bytes) (doubts : K → Bytes → Type 0) where
+module _ {K : Type 0} (keeper : KeeperMeaning K) where
   -- the keeper tells its list, and that is the list's records
   pub record Tells (k : K) (h : History) : Type 0 where
-    pub tells_it : tells k
-    pub list_is : list k ≡ payloads h
-    pub follow : (payload : Bytes) → doubts k payload → MayFollow h payload
+    pub tells_it : keeper.tells k
+    pub list_is : keeper.list k ≡ payloads entry_bytes h
+    pub follow : (payload : Bytes) → keeper.doubts k payload → MayFollow h payload
 
   -- the room stands for the book; where it is told, the keeper's list is that of the book
   pub record Stands (r : Room K) (b : Book) : Type 0 where
     pub store_is : r.store ≡ b.store
     pub machine_for : StandsFor r.machine b.list
-    pub kept : IsKept b.list
-    pub few : length b.list ≤ 2147483648 + min (used r.keeper) LAST
+    pub kept : IsStored b.list
+    pub few : length b.list ≤ 2147483648 + min (keeper.used r.keeper) LAST
     pub told : b.told ≡ true → Tells r.keeper b.list
 
   abbrev pub SomeBook : Room K → Type 0
   SomeBook r = (b : Book) × Stands r b
 
 -- the numbers beside a call
-abbrev pub numbers : {K : Type 0} → (K → ℕ) → (K → ℕ) → Room K → Room K → Beside
-numbers faults used old new = beside (faults old.keeper) (used old.keeper) (faults new.keeper) (used new.keeper)
+abbrev pub numbers : {K : Type 0} → KeeperMeaning K → Room K → Room K → Beside
+numbers keeper old new = beside (keeper.faults old.keeper) (keeper.used old.keeper) (keeper.faults new.keeper) (keeper.used new.keeper)
 
--- what opening after a crash might have found since a moment
-abbrev pub found_since : {K : Type 0} → (K → ℕ → Option (List Bytes) → Type 0) → Room K → ℕ → Option History → Type 0
-found_since left_since r t found = (opened : Option (List Bytes)) × left_since r.keeper t opened × Opens opened found
-
--- the entries in doubt: those whose payload a crash may leave behind the list
-abbrev pub in_doubt : {K : Type 0} → (K → Bytes → Type 0) → Room K → Entry → Type 0
-in_doubt doubts r e = doubts r.keeper (entry_bytes e)
+-- the entries in doubt: those within the limits whose payload a crash may leave behind the list
+abbrev pub in_doubt : {K : Type 0} → KeeperMeaning K → Room K → Entry → Type 0
+in_doubt keeper r e = IsEntry e × keeper.doubts r.keeper (entry_bytes e)

@@ -24,6 +24,47 @@ pub enum Answered {
     Memory,
 }
 
+/// What a receipt is answered. It takes no memory.
+#[derive(Drop)]
+pub enum Kept {
+    /// It is done, and kept where it raises what is acknowledged.
+    Done(Reply),
+    /// It is denied, for the first reason in their order: nothing is kept.
+    Denied(Denial),
+    /// The keeper has failed, and its count of faults has risen. The list is as before, and a crash may leave the entry
+    /// that was tried behind it.
+    Fault,
+    /// The entry would pass the limit: nothing is kept.
+    Full {
+        /// The bytes in use.
+        size: u64,
+        /// The length of the entry's payload in bytes.
+        length: u64,
+    },
+}
+
+/// What a tick or a halt is answered. It takes no memory.
+#[derive(Clone, Copy, Debug, PartialEq, Eq)]
+pub enum Ticked {
+    /// An entry is kept.
+    Kept {
+        /// Its place in the list.
+        entry: u64,
+    },
+    /// Nothing waits that is released by now: nothing is kept. A halt is never answered so.
+    Still,
+    /// The keeper has failed, and its count of faults has risen. The list is as before, and a crash may leave the entry
+    /// that was tried behind it.
+    Fault,
+    /// The entry would pass the limit: nothing is kept.
+    Full {
+        /// The bytes in use.
+        size: u64,
+        /// The length of the entry's payload in bytes.
+        length: u64,
+    },
+}
+
 /// Why records open to no room.
 #[derive(Clone, Copy, Debug, PartialEq, Eq)]
 pub enum RoomFault {

@@ -1,8 +1,9 @@
 //! A room is opened from the records of its keeper.
-ghost use Rattle.std.specs.Prelude.{◌≡◌, ◌<◌, ◌+◌, length, All, slice_get};
+ghost use Rattle.std.specs.Prelude.{◌≡◌, ◌<◌, ◌+◌, length, All, slice_get, Some};
 ghost use Rattle.news_types.specs.History.{History};
 ghost use Rattle.newsroom.specs.Stands.{StandsFor};
-ghost use Rattle.news_room.specs.Log.{IsKept};
+ghost use Rattle.newsroom.specs.Acts.{IsSmall};
+ghost use Rattle.news_room.specs.Log.{IsStored};
 ghost use Rattle.news_room.specs.declared.answers.RoomFault.{RoomFault};
 ghost use Rattle.news_room.specs.Opening.{Takes, Keeps, Reads, Opened};
 
@@ -10,8 +11,8 @@ use crate::answers::RoomFault;
 use crate::room::Room;
 use entry_codec::{CodecFault, decode};
 use news_io::{Keeper, Record};
-use news_types::Entry;
-use newsroom::{Newsroom, Prepared, can_do};
+use news_types::{Act, Entry};
+use newsroom::{Newsroom, Prepared};
 use std::alloc::Global;
 use uuid::Uuid;
 
@@ -28,7 +29,7 @@ impl<K: Keeper> Room<K> {
     ) -> Result<Room<K>, (K, RoomFault)>
         requires few { length records.now < 2147483648 }
         requires places { All (λ r. r.at < 4294967296) records.now }
-        ensures { Opened K.used K.tells K.list K.doubts keeper store records.now result }
+        ensures { Opened K.keeper keeper store records.now result }
     {
         match read(alloc, store, records) {
             Ok(machine) => Ok(Room {
@@ -61,7 +62,7 @@ fn read(alloc: Global, store: Uuid, records: &[Record]) -> Result<Newsroom, Room
 fn take(machine: &mut Newsroom, alloc: Global, here: &Record) -> Result<(), RoomFault>
     requires stands { (h : History) × (StandsFor machine.old h × (length h < 2147483648)) }
     requires place { here.now.at < 4294967296 }
-    ensures { (h : History) → StandsFor machine.old h → IsKept h → Takes machine.new h here.now result }
+    ensures { (h : History) → StandsFor machine.old h → IsStored h → Takes machine.new h here.now result }
 {
     match decode(alloc, here.bytes.as_slice()) {
         Ok(entry) => {
@@ -89,14 +90,33 @@ fn no_entry(here: &Record, place: u64) -> RoomFault
 // Keeps an entry, where it may follow.
 fn keep(machine: &mut Newsroom, gate: u64, entry: &Entry) -> Result<(), RoomFault>
     requires stands { (h : History) × (StandsFor machine.old h × (length h < 2147483648)) }
+    requires early { entry.now.moment < 253402300800 }
     ensures { (h : History) → StandsFor machine.old h → Keeps machine.new h gate entry.now result }
 {
-    let unlawful = RoomFault::Damaged {
+    match &entry.act {
+        Act::Request { .. } | Act::Ingest { .. } => keep_large(machine, gate, entry),
+        _ => keep_small(machine, gate, entry),
+    }
+}
+
+// Where an entry may not follow: its record's gate, which is 1.
+fn unlawful(gate: u64) -> RoomFault
+    ensures { result ≡ RoomFault.Damaged gate (Some 1) }
+{
+    RoomFault::Damaged {
         at: gate,
         found: Some(1),
-    };
-    if !can_do(&entry.act) || entry.moment < machine.moment() {
-        return Err(unlawful);
+    }
+}
+
+// Keeps a request or an ingest, where it may follow.
+fn keep_large(machine: &mut Newsroom, gate: u64, entry: &Entry) -> Result<(), RoomFault>
+    requires stands { (h : History) × (StandsFor machine.old h × (length h < 2147483648)) }
+    requires large { IsSmall entry.now.act → ⊥ }
+    ensures { (h : History) → StandsFor machine.old h → Keeps machine.new h gate entry.now result }
+{
+    if entry.moment < machine.moment() {
+        return Err(unlawful(gate));
     }
     match machine.prepare(&entry.act, entry.moment) {
         Prepared::Change(change) => {
@@ -104,8 +124,22 @@ fn keep(machine: &mut Newsroom, gate: u64, entry: &Entry) -> Result<(), RoomFaul
             Ok(())
         }
         Prepared::Memory => Err(RoomFault::Memory),
-        Prepared::Settled(_) | Prepared::Repeat(_) | Prepared::Denied(_) => Err(unlawful),
+        Prepared::Settled(_) | Prepared::Repeat(_) | Prepared::Denied(_) => Err(unlawful(gate)),
     }
+}
+
+// Keeps one of the other acts, where it may follow. It takes no memory.
+fn keep_small(machine: &mut Newsroom, gate: u64, entry: &Entry) -> Result<(), RoomFault>
+    requires stands { (h : History) × (StandsFor machine.old h × (length h < 2147483648)) }
+    requires small { IsSmall entry.now.act }
+    requires early { entry.now.moment < 253402300800 }
+    ensures { (h : History) → StandsFor machine.old h → Keeps machine.new h gate entry.now result }
+{
+    if !machine.legal(&entry.act, entry.moment) {
+        return Err(unlawful(gate));
+    }
+    machine.apply(&entry.act, entry.moment);
+    Ok(())
 }
 
 #[cfg(test)]

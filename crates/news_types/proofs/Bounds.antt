@@ -1,5 +1,5 @@
 -- How many there are of each thing behind so many entries, whether the list is legal or not.
-use Rattle.std.proofs.Common.{◌∙◌, ◌≡◌, ℕ, zero, suc, ◌+◌, ◌-◌, ◌≤◌, ◌==◌, Bool, true, false, cond, not, Option, Some, None, List, [], ◌∷◌, ◌++◌, length, refl, ap, arith}
+use Rattle.std.proofs.Common.{◌≡◌, ℕ, zero, suc, ◌+◌, ◌-◌, ◌≤◌, ◌==◌, Bool, true, false, cond, not, Option, Some, None, List, [], ◌∷◌, ◌++◌, length, refl, ap, arith}
 use Rattle.std.specs.Prelude.{slice_get, nat_lt}
 use Rattle.std.specs.List.{filter}
 use Rattle.std.specs.Option.{option_map}
@@ -18,13 +18,15 @@ use Rattle.news_types.specs.Conditions.{conditions_added, condition_count}
 use Rattle.news_types.specs.Filters.{Filter, filters, filters_after, changed as changed_filter}
 use Rattle.news_types.specs.Products.{products_added, product_count, subscribers, subscribers_after}
 use Rattle.news_types.specs.Routing.{schemes_added, scheme_count, providers_added, provider_count}
-use Rattle.news_types.specs.Publications.{Pub, is_first_of, standing_first}
-use Rattle.news_types.specs.Items.{Item, Made, Issue, Effect, New, NewAt, Replaces, Cancels, Settled, numbered, changed, changed_at, changed_by, settled, named_item, behind, version_after, items_by, items_by_command, items_by_effect, replaced_by, issued_by, issued_by_command, issued_by_effect, effect_by, pubs_of_item, pubs_of_issue, kept_by, made, item, item_count, pubs, standing}
+use Rattle.news_types.specs.Due.{Pub, is_first_of, standing_first, release_to}
+use Rattle.news_types.specs.Items.{Item, Made, Effect, New, NewAt, Replaces, Cancels, Settled, item_numbered, changed, changed_at, changed_by, at_moment, named_item, item_after, version_after, items_by, items_by_command, items_by_effect, replaced_by, effect_by}
+use Rattle.news_types.specs.Publications.{Issue, issued_by, issued_by_command, issued_by_effect, pubs_of_item, pubs_of_issue, kept_by, made, item, item_count, pubs, standing}
 use Rattle.news_types.specs.States.{moved}
 use Rattle.news_types.specs.declared.words.Action.TheVariants as action
-use Rattle.news_types.specs.Feeds.{place, ordered, is_due, is_out, is_waiting, due_to, feed, waiting}
+use Rattle.news_types.specs.Feeds.{Dispatch, dispatch, inserted, put, is_out, is_waiting, due_to, feed, waiting}
 use Rattle.news_types.specs.Members.{Each}
 use Rattle.news_types.proofs.Members.{each_map, each_append, each_get}
+use Rattle.news_types.proofs.Firsts.{taken_back_length}
 
 -- ---- things that commands add
 
@@ -106,7 +108,7 @@ filters_within [] = omega arith
 filters_within (e ∷ h) = filters_by_act e.act (filters h) (length h) (filters_within h)
 
 subscribers_by_command : (command : Command) (names : List Bytes) → length (subscribers_after command names) ≤ suc (length names)
-subscribers_by_command (AddSubscriber subscriber format products) names = omega arith
+subscribers_by_command (AddSubscriber subscriber format products lag) names = omega arith
 subscribers_by_command _ names = omega arith
 
 subscribers_by_act : (act : Act) (names : List Bytes) (n : ℕ) → length names ≤ n → length (by_command subscribers_after act names) ≤ suc n
@@ -145,11 +147,11 @@ pub command_items : (w : Made) (m : ℕ) (caller : Bytes) (command : Command) �
 command_items w m caller (Create desk story) = pushed_more w.items _
 command_items w m caller (Flash story targets) = pushed_more w.items _
 command_items w m caller command =
-    changed_more (named_item command) (λ it. changed_by caller command (settled m (standing_first (named_item command) w.standing) it)) w.items
+    changed_more (named_item command) (λ it. changed_by caller command (at_moment m (standing_first (named_item command) w.standing) it)) w.items
 
 pub effect_items : (w : Made) (name : Bytes) (come : Incoming) (effect : Effect) → OneMore (length w.items) (length (items_by_effect w name come effect))
 effect_items w name come New = pushed_more w.items _
-effect_items w name come (NewAt place published) = pushed_more w.items _
+effect_items w name come (NewAt inserted published) = pushed_more w.items _
 effect_items w name come (Replaces i) = changed_more i (replaced_by name come) w.items
 effect_items w name come (Cancels i) = changed_more i (λ it. record it { state = moved action.Cancel it.state }) w.items
 effect_items w name come (Settled i) = (omega arith, omega arith)
@@ -209,14 +211,16 @@ filter_length t (x ∷ xs) = by (t x) (filter_length t xs)
     by true le = omega (arith, le)
     by false le = omega (arith, le)
 
-pub kept_length : (act : Act) (ps : List Pub) → length (kept_by act ps) ≤ length ps
-kept_length (Request caller number (Deschedule i)) ps = filter_length (λ p. not (is_first_of i p)) ps
-kept_length (Request caller number command) ps = omega arith
-kept_length _ ps = omega arith
+pub kept_length : (m : ℕ) (act : Act) (ps : List Pub) → length (kept_by m act ps) ≤ length ps
+kept_length m (Request caller number (Deschedule i)) ps = filter_length (λ p. not (is_first_of i p)) ps
+kept_length m (Request caller number (Kill i session note)) ps = let same_length = taken_back_length m i ps in omega (arith, same_length)
+kept_length m (Request caller number (Recall i session note)) ps = let same_length = taken_back_length m i ps in omega (arith, same_length)
+kept_length m (Request caller number command) ps = omega arith
+kept_length m _ ps = omega arith
 
 pub standing_within_pubs : (h : History) → length (standing h) ≤ length (pubs h)
 standing_within_pubs [] = omega arith
-standing_within_pubs (e ∷ h) = both (new_pubs e h) (kept_by e.act (standing h)) (standing h) (pubs h) (kept_length e.act (standing h)) (standing_within_pubs h)
+standing_within_pubs (e ∷ h) = both (new_pubs e h) (kept_by e.moment e.act (standing h)) (standing h) (pubs h) (kept_length e.moment e.act (standing h)) (standing_within_pubs h)
   where
     both : (new kept stands all : List Pub) → length kept ≤ length stands → length stands ≤ length all → length (new ++ kept) ≤ length (new ++ all)
     both new kept stands all less le = let a = length-append new kept in let b = length-append new all in omega (arith, a, b, less, le)
@@ -226,29 +230,31 @@ standing_within h = let a = standing_within_pubs h in let b = pubs_within h in o
 
 -- ---- feeds
 
-place_length : (p : Pub) (ps : List Pub) → length (place p ps) ≡ suc (length ps)
-place_length p [] = refl
-place_length p (q ∷ ps) =
-    elim (nat_lt p.release q.release) as (λ b. length (cond b (p ∷ q ∷ ps) (q ∷ place p ps)) ≡ suc (suc (length ps))) [ true ↦ refl | false ↦ ap suc (place_length p ps) ]
+place_length : (d : Dispatch) (ds : List Dispatch) → length (inserted d ds) ≡ suc (length ds)
+place_length d [] = refl
+place_length d (e ∷ es) =
+    elim (nat_lt d.release e.release) as (λ b. length (cond b (d ∷ e ∷ es) (e ∷ inserted d es)) ≡ suc (suc (length es))) [ true ↦ refl | false ↦ ap suc (place_length d es) ]
 
-pub ordered_length : (ps : List Pub) → length (ordered ps) ≡ length ps
-ordered_length [] = refl
-ordered_length (p ∷ ps) = place_length p (ordered ps) ∙ ap suc (ordered_length ps)
+put_length : (p : Pub) (o : Option ℕ) (ds : List Dispatch) → length (put p o ds) ≤ suc (length ds)
+put_length p None ds = omega arith
+put_length p (Some release) ds = let long = place_length (dispatch p release) ds in omega (arith, long)
+
+pub due_to_length : (s : Bytes) (ps : List Pub) → length (due_to s ps) ≤ length ps
+due_to_length s [] = omega arith
+due_to_length s (p ∷ ps) = let one = put_length p (release_to s p.due) (due_to s ps) in let rest = due_to_length s ps in omega (arith, one, rest)
 
 -- a feed has no more entries than there are publications that stand
 pub feed_within : (h : History) (s : Bytes) → length (feed h s) ≤ length (standing h)
 feed_within h s =
     let out = filter_length (is_out (moment h)) (due_to s (standing h)) in
-    let due = filter_length (is_due s) (ordered (standing h)) in
-    let all = ordered_length (standing h) in
-    omega (arith, out, due, all)
+    let due = due_to_length s (standing h) in
+    omega (arith, out, due)
 
 pub waiting_within : (h : History) (s : Bytes) → length (waiting h s) ≤ length (standing h)
 waiting_within h s =
     let out = filter_length (is_waiting (moment h)) (due_to s (standing h)) in
-    let due = filter_length (is_due s) (ordered (standing h)) in
-    let all = ordered_length (standing h) in
-    omega (arith, out, due, all)
+    let due = due_to_length s (standing h) in
+    omega (arith, out, due)
 
 -- ---- versions
 
@@ -281,7 +287,7 @@ of_get P items None i is all = tt
 of_get P items (Some it) i is all = each_get P items i it all is
 
 -- item i of a list
-pub of_numbered : (P : Item → Type 0) (items : List Item) (i : ℕ) → Each P items → OfItem P (numbered items i)
+pub of_numbered : (P : Item → Type 0) (items : List Item) (i : ℕ) → Each P items → OfItem P (item_numbered items i)
 of_numbered P items i all =
     elim (i == 0) as (λ b. OfItem P (cond b None (slice_get items (i - 1)))) [ true ↦ tt | false ↦ of_get P items (slice_get items (i - 1)) (i - 1) refl all ]
 
@@ -303,7 +309,7 @@ next_version _ n = (omega arith, omega arith)
 version_kept : (n : ℕ) (it : Item) → VersionTo n it → VersionTo (suc n) it
 version_kept n it to = (to.0, omega (arith, to.1))
 
-version_changed : (n : ℕ) (m : ℕ) (first : Option Pub) (caller : Bytes) (command : Command) (it : Item) → VersionTo n it → VersionTo (suc n) (changed_by caller command (settled m first it))
+version_changed : (n : ℕ) (m : ℕ) (first : Option Pub) (caller : Bytes) (command : Command) (it : Item) → VersionTo n it → VersionTo (suc n) (changed_by caller command (at_moment m first it))
 version_changed n m first caller command it to = let next = next_version command it.version in (omega (arith, next.0, to.0), omega (arith, next.1, to.1))
 
 version_one : (n : ℕ) (items : List Item) (it : Item) → it.version ≡ 1 → Each (VersionTo n) items → Each (VersionTo (suc n)) (items ++ it ∷ [])
@@ -314,12 +320,12 @@ command_versions : (w : Made) (n m : ℕ) (caller : Bytes) (command : Command) �
 command_versions w n m caller (Create desk story) all = version_one n w.items _ refl all
 command_versions w n m caller (Flash story targets) all = version_one n w.items _ refl all
 command_versions w n m caller command all =
-    each_changed (VersionTo n) (VersionTo (suc n)) (named_item command) (λ it. changed_by caller command (settled m (standing_first (named_item command) w.standing) it)) w.items
+    each_changed (VersionTo n) (VersionTo (suc n)) (named_item command) (λ it. changed_by caller command (at_moment m (standing_first (named_item command) w.standing) it)) w.items
     (version_kept n) (version_changed n m (standing_first (named_item command) w.standing) caller command) all
 
 effect_versions : (w : Made) (n : ℕ) (name : Bytes) (come : Incoming) (effect : Effect) → Each (VersionTo n) w.items → Each (VersionTo (suc n)) (items_by_effect w name come effect)
 effect_versions w n name come New all = version_one n w.items _ refl all
-effect_versions w n name come (NewAt place published) all = version_one n w.items _ refl all
+effect_versions w n name come (NewAt inserted published) all = version_one n w.items _ refl all
 effect_versions w n name come (Replaces i) all =
     each_changed (VersionTo n) (VersionTo (suc n)) i (replaced_by name come) w.items (version_kept n) (λ it to. (omega (arith, to.0), omega (arith, to.1))) all
 effect_versions w n name come (Cancels i) all =
@@ -348,9 +354,9 @@ abbrev OfIssue : ℕ → Option Issue → Type 0
 OfIssue n None = Unit {0}
 OfIssue n (Some issue) = OfItem (VersionTo n) issue.after
 
-behind_version : (w : Made) (n m : ℕ) (caller : Bytes) (command : Command) → Each (VersionTo n) w.items → OfItem (VersionTo (suc n)) (behind w m caller command)
+behind_version : (w : Made) (n m : ℕ) (caller : Bytes) (command : Command) → Each (VersionTo n) w.items → OfItem (VersionTo (suc n)) (item_after w m caller command)
 behind_version w n m caller command all =
-    of_mapped (VersionTo n) (VersionTo (suc n)) (λ it. changed_by caller command (settled m (standing_first (named_item command) w.standing) it)) (numbered w.items (named_item command))
+    of_mapped (VersionTo n) (VersionTo (suc n)) (λ it. changed_by caller command (at_moment m (standing_first (named_item command) w.standing) it)) (item_numbered w.items (named_item command))
     (version_changed n m (standing_first (named_item command) w.standing) caller command) (of_numbered (VersionTo n) w.items (named_item command) all)
 
 command_issue : (w : Made) (n m : ℕ) (caller : Bytes) (command : Command) → Each (VersionTo n) w.items → OfIssue (suc n) (issued_by_command w m caller command)
@@ -362,7 +368,7 @@ command_issue w n m caller (Recall i session note) all = behind_version w n m ca
 command_issue w n m caller _ all = tt
 
 effect_issue : (w : Made) (n m : ℕ) (name : Bytes) (come : Incoming) (effect : Effect) → OfIssue (suc n) (issued_by_effect w m name come effect)
-effect_issue w n m name come (NewAt place true) = (omega arith, omega arith)
+effect_issue w n m name come (NewAt inserted true) = (omega arith, omega arith)
 effect_issue w n m name come _ = tt
 
 act_issue : (h : History) (w : Made) (n m : ℕ) (act : Act) → Each (VersionTo n) w.items → OfIssue (suc n) (issued_by h w m act)

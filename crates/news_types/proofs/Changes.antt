@@ -21,8 +21,9 @@ use Rattle.news_types.specs.Filters.{filters, filters_after}
 use Rattle.news_types.specs.Products.{product, product_after, products_added, product_count, subscriber, subscriber_after, subscribers, subscribers_after}
 use Rattle.news_types.specs.Routing.{scheme, scheme_after, schemes_added, scheme_count, provider, provider_after, providers_added, provider_count}
 use Rattle.news_types.specs.States.{moved}
-use Rattle.news_types.specs.Publications.{standing_first, withdrawn}
-use Rattle.news_types.specs.Items.{Item, Issue, Effect, New, NewAt, Replaces, Cancels, made, changed, changed_by, settled, fresh, made_by, named_item, behind, items_by_command, items_by_effect, new_item, routed_item, replaced_by, first_issue, later_issue, release_at, issued_by_command, issued_by_effect, pub_of, pubs_of_issue, kept_by_command, item, item_count, pubs, standing, effect}
+use Rattle.news_types.specs.Due.{standing_first, withdrawn, taken_back}
+use Rattle.news_types.specs.Items.{Item, Effect, New, NewAt, Replaces, Cancels, changed, changed_by, at_moment, fresh, made_by, named_item, item_after, items_by_command, items_by_effect, new_item, routed_item, replaced_by}
+use Rattle.news_types.specs.Publications.{Issue, made, first_issue, later_issue, release_at, issued_by_command, issued_by_effect, pub_of, pubs_of_issue, kept_by_command, item, item_count, pubs, standing, effect}
 use Rattle.news_types.specs.Feeds.{feed, feed_of, waiting, waiting_of}
 use Rattle.news_types.specs.Delivery.{acked, tries, tries_after_command, tried}
 use Rattle.news_types.specs.Outcome.{entry_of, last_reply, reply_to}
@@ -96,8 +97,8 @@ IsOfNoTable (SetFilter filter statements) = ⊥
 IsOfNoTable (SetBlock filter on) = ⊥
 IsOfNoTable (AddProduct name how filter) = ⊥
 IsOfNoTable (SetProduct name how filter) = ⊥
-IsOfNoTable (AddSubscriber name format products) = ⊥
-IsOfNoTable (SetSubscriber name active products off) = ⊥
+IsOfNoTable (AddSubscriber name format products lag) = ⊥
+IsOfNoTable (SetSubscriber name active products off lag) = ⊥
 IsOfNoTable (AddScheme name rules) = ⊥
 IsOfNoTable (AddProvider name given) = ⊥
 IsOfNoTable _ = Unit {0}
@@ -222,8 +223,8 @@ module _ (h : History) (m number : ℕ) (caller : Bytes) where
   item_tables (SetBlock filter on) of = absurd of
   item_tables (AddProduct name how filter) of = absurd of
   item_tables (SetProduct name how filter) of = absurd of
-  item_tables (AddSubscriber name format products) of = absurd of
-  item_tables (SetSubscriber name active products off) of = absurd of
+  item_tables (AddSubscriber name format products lag) of = absurd of
+  item_tables (SetSubscriber name active products off lag) of = absurd of
   item_tables (AddScheme name rules) of = absurd of
   item_tables (AddProvider name given) of = absurd of
   item_tables _ of = record {
@@ -255,7 +256,7 @@ module _ (h : History) (m number : ℕ) (caller : Bytes) where
   requested_pubs command = refl
 
   pub requested_standing : (command : Command)
-      → standing (requested command) ≡ pubs_of_issue h (made h) (issued_by_command (made h) m caller command) ++ kept_by_command command (standing h)
+      → standing (requested command) ≡ pubs_of_issue h (made h) (issued_by_command (made h) m caller command) ++ kept_by_command m command (standing h)
   requested_standing command = refl
 
   -- a command of a table, a resume or a stop leaves every item and publication
@@ -292,9 +293,9 @@ module _ (h : History) (m number : ℕ) (caller : Bytes) where
 
   -- the item that a command names, as it is at the moment and behind the command
   abbrev pub after : Command → Item → Item
-  after command it = changed_by caller command (settled m (standing_first (named_item command) (standing h)) it)
+  after command it = changed_by caller command (at_moment m (standing_first (named_item command) (standing h)) it)
 
-  pub behind_there : (command : Command) (it : Item) → item h (named_item command) ≡ Some it → behind (made h) m caller command ≡ Some (after command it)
+  pub behind_there : (command : Command) (it : Item) → item h (named_item command) ≡ Some it → item_after (made h) m caller command ≡ Some (after command it)
   behind_there command it there = ap (option_map (after command)) there
 
   -- an item that a command names is changed, and no other
@@ -319,7 +320,7 @@ module _ (h : History) (m number : ℕ) (caller : Bytes) where
 
   -- what is published of an item that is there
   pub published_pubs : (command : Command) (issue : Issue) (it : Item) → issued_by_command (made h) m caller command ≡ Some issue → issue.after ≡ Some it
-      → (pubs (requested command) ≡ pub_of h (made h) issue it ∷ pubs h) × (standing (requested command) ≡ pub_of h (made h) issue it ∷ kept_by_command command (standing h))
+      → (pubs (requested command) ≡ pub_of h (made h) issue it ∷ pubs h) × (standing (requested command) ≡ pub_of h (made h) issue it ∷ kept_by_command m command (standing h))
   published_pubs command issue it issued there = rw issued (rw there (refl, refl))
 
   pub flash_pubs : (story : Story) (targets : List Bytes) → let it : Item = fresh (moved action.Publish Draft) story None None in
@@ -338,11 +339,11 @@ module _ (h : History) (m number : ℕ) (caller : Bytes) where
     correct_pubs story = rw there (refl, refl)
 
     pub kill_pubs : (note : Bytes) → let command : Command = Kill i session note in let issue : Issue = later_issue kind.Kill (made h) i (Some (after command it)) m (Some note) in
-        (pubs (requested command) ≡ pub_of h (made h) issue (after command it) ∷ pubs h) × (standing (requested command) ≡ pub_of h (made h) issue (after command it) ∷ standing h)
+        (pubs (requested command) ≡ pub_of h (made h) issue (after command it) ∷ pubs h) × (standing (requested command) ≡ pub_of h (made h) issue (after command it) ∷ taken_back m i (standing h))
     kill_pubs note = rw there (refl, refl)
 
     pub recall_pubs : (note : Bytes) → let command : Command = Recall i session note in let issue : Issue = later_issue kind.Recall (made h) i (Some (after command it)) m (Some note) in
-        (pubs (requested command) ≡ pub_of h (made h) issue (after command it) ∷ pubs h) × (standing (requested command) ≡ pub_of h (made h) issue (after command it) ∷ standing h)
+        (pubs (requested command) ≡ pub_of h (made h) issue (after command it) ∷ pubs h) × (standing (requested command) ≡ pub_of h (made h) issue (after command it) ∷ taken_back m i (standing h))
     recall_pubs note = rw there (refl, refl)
 
   -- attempts and receipts

@@ -14,8 +14,7 @@ use Rattle.news_types.specs.declared.command.Command.TheVariants.{Resume}
 use Rattle.news_types.specs.Names.{Bytes, same}
 use Rattle.news_types.specs.History.{History}
 use Rattle.news_types.specs.Products.{is_subscriber}
-use Rattle.news_types.specs.Publications.{Pub}
-use Rattle.news_types.specs.Feeds.{feed}
+use Rattle.news_types.specs.Feeds.{Dispatch, feed}
 use Rattle.news_types.specs.FeedLaws.{BeginsWith}
 use Rattle.news_types.specs.Delivery.{acked, acked_after, tries, tries_after, tries_after_command, tried, tried_after, retry_delay, next_entry, ready_from, ready_at, is_by, is_ready}
 use Rattle.news_types.specs.Legal.{IsLegal, Follows}
@@ -25,7 +24,7 @@ use Rattle.news_types.proofs.Subscribed.{absent_before, absent_feed}
 
 -- ---- what is acknowledged
 
-longer : (ps qs : List Pub) → BeginsWith ps qs → length qs ≤ length ps
+longer : (ps qs : List Dispatch) → BeginsWith ps qs → length qs ≤ length ps
 longer ps qs begins = let one : length ps ≡ length (qs ++ begins.0) = ap length begins.1 in let both = length-append qs begins.0 in omega (arith, one, both)
 
 -- a feed never gets shorter
@@ -48,7 +47,7 @@ acked_within (e ∷ h) s legal = let now = acked_by h e.act e.moment s legal.2 (
 -- ---- tries
 
 -- where the next entry may be sent, there were fewer than ten tries
-pub ready_tries : (o : Option Pub) (n last m : ℕ) → is_by m (ready_from o n last) ≡ true → n < 10
+pub ready_tries : (o : Option Dispatch) (n last m : ℕ) → is_by m (ready_from o n last) ≡ true → n < 10
 ready_tries None n last m ready = absurd (true≢false (sym ready))
 ready_tries (Some p) n last m ready =
     elim (cases_lt n 10) [

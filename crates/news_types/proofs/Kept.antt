@@ -16,13 +16,14 @@ use Rattle.news_types.specs.declared.story.Story.{Story}
 use Rattle.news_types.specs.Names.{Bytes}
 use Rattle.news_types.specs.History.{History}
 use Rattle.news_types.specs.States.{next_state, moved}
-use Rattle.news_types.specs.Publications.{Pub, is_first, standing_first}
-use Rattle.news_types.specs.Items.{Item, Made, Issue, Effect, New, NewAt, Replaces, Cancels, Settled, numbered, changed, changed_by, settled, state_at, behind, routed_item, replaced_by, items_by, items_by_command, items_by_effect, issued_by, issued_by_command, issued_by_effect, pub_of, pubs_of_item, pubs_of_issue, kept_by, effect_by, first_issue, later_issue, release_at}
-use Rattle.news_types.proofs.Firsts.{Fits, firsts, is_published, fits_changed, fits_pushed, fits_made, fits_first, fits_later, fits_withdrawn, settled_out, lock_out, edit_out, move_out, spike_out, unspike_out, fetch_out, publish_out, correct_out, kill_out, recall_out, cancel_out, numbered_hit, Fit}
+use Rattle.news_types.specs.Due.{Pub, is_first, standing_first, taken_back}
+use Rattle.news_types.specs.Items.{Item, Made, Effect, New, NewAt, Replaces, Cancels, Settled, item_numbered, changed, changed_by, at_moment, state_at, item_after, routed_item, replaced_by, items_by, items_by_command, items_by_effect, effect_by}
+use Rattle.news_types.specs.Publications.{Issue, issued_by, issued_by_command, issued_by_effect, pub_of, pubs_of_item, pubs_of_issue, kept_by, first_issue, later_issue, release_at}
+use Rattle.news_types.proofs.Firsts.{Fits, firsts, is_published, fits_changed, fits_pushed, fits_made, fits_first, fits_later, fits_withdrawn, fits_taken_back, settled_out, lock_out, edit_out, move_out, spike_out, unspike_out, fetch_out, publish_out, correct_out, kill_out, recall_out, cancel_out, numbered_hit, Fit}
 
 -- the item, as it is at the moment, may be published
 abbrev pub MayPublish : Made → ℕ → ℕ → Type 0
-MayPublish w m i = (it : Item) → numbered w.items i ≡ Some it → is_some (next_state (state_at m (standing_first i w.standing) it.state) action.Publish) ≡ true
+MayPublish w m i = (it : Item) → item_numbered w.items i ≡ Some it → is_some (next_state (state_at m (standing_first i w.standing) it.state) action.Publish) ≡ true
 
 abbrev pub Clear : Made → ℕ → Act → Type 0
 Clear w m (Request caller number (Publish i session schedule embargo targets)) = MayPublish w m i
@@ -51,21 +52,21 @@ flashed story = record { state = Scheduled; version = 1; story = story; place = 
 
 module _ (h : History) (w : Made) (m : ℕ) (fits : Fits w.items w.standing) where
   abbrev after : Bytes → Command → ℕ → Item → Item
-  after caller command i it = changed_by caller command (settled m (standing_first i w.standing) it)
+  after caller command i it = changed_by caller command (at_moment m (standing_first i w.standing) it)
 
   settle : (i : ℕ) (it : Item) → is_published (state_at m (standing_first i w.standing) it.state) ≡ false → is_published it.state ≡ false
   settle i it = settled_out m (standing_first i w.standing) it.state
 
   -- a publication that is no first, of a changed item
-  later_step : (i : ℕ) (f : Item → Item) (issue : Issue) (o : Option Item) → ((it : Item) → is_first (pub_of h w issue it).kind ≡ false)
+  later_step : (i : ℕ) (f : Item → Item) (issue : Issue) (o : Option Item) (ps : List Pub) → Fits w.items ps → ((it : Item) → is_first (pub_of h w issue it).kind ≡ false)
       → ((it : Item) → is_published (f it).state ≡ false → is_published it.state ≡ false)
-      → Fits (changed i f w.items) (pubs_of_item h w issue o ++ w.standing)
-  later_step i f issue None later keeps = fits_changed i f w.items w.standing keeps fits
-  later_step i f issue (Some it) later keeps = fits_later (pub_of h w issue it) (changed i f w.items) w.standing (later it) (fits_changed i f w.items w.standing keeps fits)
+      → Fits (changed i f w.items) (pubs_of_item h w issue o ++ ps)
+  later_step i f issue None ps fit later keeps = fits_changed i f w.items ps keeps fit
+  later_step i f issue (Some it) ps fit later keeps = fits_later (pub_of h w issue it) (changed i f w.items) ps (later it) (fits_changed i f w.items ps keeps fit)
 
-  publish_step : (i : ℕ) (f : Item → Item) (release : ℕ) (targets : List Bytes) (o : Option Item) → numbered w.items i ≡ o
+  publish_step : (i : ℕ) (f : Item → Item) (release : ℕ) (targets : List Bytes) (o : Option Item) → item_numbered w.items i ≡ o
       → ((it : Item) → is_published (f it).state ≡ false → is_published it.state ≡ false)
-      → ((it : Item) → numbered w.items i ≡ Some it → (firsts i w.standing ≡ []) × (is_published (f it).state ≡ true))
+      → ((it : Item) → item_numbered w.items i ≡ Some it → (firsts i w.standing ≡ []) × (is_published (f it).state ≡ true))
       → Fits (changed i f w.items) (pubs_of_item h w (first_issue i (option_map f o) release targets) (option_map f o) ++ w.standing)
   publish_step i f release targets None is keeps may = fits_changed i f w.items w.standing keeps fits
   publish_step i f release targets (Some it) is keeps may =
@@ -77,7 +78,7 @@ module _ (h : History) (w : Made) (m : ℕ) (fits : Fits w.items w.standing) whe
   made_step x release targets out = fits_made (pub_of h w (first_issue (length w.items + 1) (Some x) release targets) x) x w.items w.standing refl refl out fits
 
   command_step : (caller : Bytes) (number : ℕ) (command : Command) → Clear w m (Request caller number command)
-      → Fits (items_by_command w m caller command) (pubs_of_issue h w (issued_by_command w m caller command) ++ kept_by (Request caller number command) w.standing)
+      → Fits (items_by_command w m caller command) (pubs_of_issue h w (issued_by_command w m caller command) ++ kept_by m (Request caller number command) w.standing)
   command_step caller number (Create desk story) clear = fits_pushed _ w.items w.standing fits
   command_step caller number (Flash story targets) clear = made_step (flashed story) m targets refl
   command_step caller number (Lock i session) clear = fits_changed i (after caller (Lock i session) i) w.items w.standing (λ it e. settle i it (lock_out _ e)) fits
@@ -89,15 +90,15 @@ module _ (h : History) (w : Made) (m : ℕ) (fits : Fits w.items w.standing) whe
   command_step caller number (Unspike i desk) clear = fits_changed i (after caller (Unspike i desk) i) w.items w.standing (λ it e. settle i it (unspike_out _ e)) fits
   command_step caller number (Fetch i desk) clear = fits_changed i (after caller (Fetch i desk) i) w.items w.standing (λ it e. settle i it (fetch_out _ e)) fits
   command_step caller number (Publish i session schedule embargo targets) clear =
-      publish_step i (after caller (Publish i session schedule embargo targets) i) (release_at m schedule embargo) targets (numbered w.items i) refl (λ it e. settle i it (publish_out _ e))
+      publish_step i (after caller (Publish i session schedule embargo targets) i) (release_at m schedule embargo) targets (item_numbered w.items i) refl (λ it e. settle i it (publish_out _ e))
       (λ it is. let row = publish_row (state_at m (standing_first i w.standing) it.state) (clear it is) in
-      (none_of (firsts i w.standing) (numbered w.items i) it is (settle i it row.0) (fits i), row.1))
+      (none_of (firsts i w.standing) (item_numbered w.items i) it is (settle i it row.0) (fits i), row.1))
   command_step caller number (Correct i session story) clear =
-      later_step i (after caller (Correct i session story) i) (later_issue kind.Correct w i (behind w m caller (Correct i session story)) m None) (behind w m caller (Correct i session story)) (λ it. refl) (λ it e. settle i it (correct_out _ e))
+      later_step i (after caller (Correct i session story) i) (later_issue kind.Correct w i (item_after w m caller (Correct i session story)) m None) (item_after w m caller (Correct i session story)) w.standing fits (λ it. refl) (λ it e. settle i it (correct_out _ e))
   command_step caller number (Kill i session note) clear =
-      later_step i (after caller (Kill i session note) i) (later_issue kind.Kill w i (behind w m caller (Kill i session note)) m (Some note)) (behind w m caller (Kill i session note)) (λ it. refl) (λ it e. settle i it (kill_out _ e))
+      later_step i (after caller (Kill i session note) i) (later_issue kind.Kill w i (item_after w m caller (Kill i session note)) m (Some note)) (item_after w m caller (Kill i session note)) (taken_back m i w.standing) (fits_taken_back m i w.items w.standing fits) (λ it. refl) (λ it e. settle i it (kill_out _ e))
   command_step caller number (Recall i session note) clear =
-      later_step i (after caller (Recall i session note) i) (later_issue kind.Recall w i (behind w m caller (Recall i session note)) m (Some note)) (behind w m caller (Recall i session note)) (λ it. refl) (λ it e. settle i it (recall_out _ e))
+      later_step i (after caller (Recall i session note) i) (later_issue kind.Recall w i (item_after w m caller (Recall i session note)) m (Some note)) (item_after w m caller (Recall i session note)) (taken_back m i w.standing) (fits_taken_back m i w.items w.standing fits) (λ it. refl) (λ it e. settle i it (recall_out _ e))
   command_step caller number (Deschedule i) clear = fits_withdrawn i (after caller (Deschedule i) i) w.items w.standing fits
   command_step caller number _ clear = fits
 
@@ -109,7 +110,7 @@ module _ (h : History) (w : Made) (m : ℕ) (fits : Fits w.items w.standing) whe
   effect_step name come (Cancels i) = fits_changed i (λ it. record it { state = moved action.Cancel it.state }) w.items w.standing (λ it e. cancel_out _ e) fits
   effect_step name come (Settled i) = fits
 
-  pub act_step : (act : Act) → Clear w m act → Fits (items_by h w m act) (pubs_of_issue h w (issued_by h w m act) ++ kept_by act w.standing)
+  pub act_step : (act : Act) → Clear w m act → Fits (items_by h w m act) (pubs_of_issue h w (issued_by h w m act) ++ kept_by m act w.standing)
   act_step (Request caller number command) clear = command_step caller number command clear
   act_step (Ingest name come) clear = effect_step name come (effect_by h w name come m)
   act_step _ clear = fits

@@ -9,12 +9,14 @@ use Rattle.news_types.specs.declared.command.Command.{Command}
 use Rattle.news_types.specs.declared.command.Command.TheVariants.{Publish, Deschedule}
 use Rattle.news_types.specs.declared.words.State.{State}
 use Rattle.news_types.specs.declared.words.State.TheVariants.{Scheduled, Published, Corrected}
+use Rattle.news_types.specs.declared.words.Thing.TheVariants as thing
 use Rattle.news_types.specs.declared.denial.Denial.{Denial}
 use Rattle.news_types.specs.Names.{Bytes}
 use Rattle.news_types.specs.History.{History, last}
-use Rattle.news_types.specs.Publications.{standing_first, release_of}
-use Rattle.news_types.specs.Items.{Item, action_of, named_item, item, state, state_at, made, standing, numbered}
-use Rattle.news_types.specs.Denial.{or_else, first_of, reasons, unless, turn_denial, command_denial, denial, item_denial, state_denial, has_row, release_denial, lock_denial, lock_rule}
+use Rattle.news_types.specs.Due.{standing_first, release_of}
+use Rattle.news_types.specs.Items.{Item, action_of, named_item, state_at, item_numbered}
+use Rattle.news_types.specs.Publications.{item, state, made, standing}
+use Rattle.news_types.specs.Denial.{or_else, first_of, absent, missing, first_missing, reasons, unless, turn_denial, command_denial, denial, item_denial, state_denial, has_row, release_denial, is_about_release, lock_denial, lock_rule}
 use Rattle.news_types.specs.Legal.{IsLegal, Follows}
 use Rattle.news_types.proofs.Firsts.{Fits, fit_none}
 use Rattle.news_types.proofs.Kept.{Clear, act_step}
@@ -50,7 +52,7 @@ item_row h caller number command m undenied =
     (none_of (reasons h caller command m) (second_no (turn_denial (last h caller) number command) (command_denial h caller command m) undenied)).1.1.1.1.1.0
 
 abbrev pub RowsHold : Command → ℕ → State → Type 0
-RowsHold command release from = ((has_row from (action_of command) || is_some (release_denial command from 0)) ≡ true) × (release_denial command from release ≡ None)
+RowsHold command release from = ((has_row from (action_of command) || is_about_release command from) ≡ true) × (release_denial command from release ≡ None)
 
 row_of : (caller : Bytes) (command : Command) (release : ℕ) (o : Option Item) (f : Item → State) (it : Item) → o ≡ Some it
     → item_denial caller command release o (option_map f o) ≡ None → RowsHold command release (f it)
@@ -87,9 +89,22 @@ scheduled_row i release _ rows = absurd (true≢false (sym rows.0))
 
 -- every legal list
 pub fits_of : (h : History) → IsLegal h → Fits ((made h).items) ((made h).standing)
-fits_of [] legal = λ i. fit_none (numbered [] i)
+fits_of [] legal = λ i. fit_none (item_numbered [] i)
 fits_of (e ∷ h) legal = act_step h (made h) e.moment (fits_of h legal.0) e.act (clear_of h e.act e.moment legal.2)
 
 pub descheduled : (h : History) (caller : Bytes) (number i m : ℕ) (it : Item) → denial h caller number (Deschedule i) m ≡ None → item h i ≡ Some it
     → state_at m (standing_first i (standing h)) it.state ≡ Scheduled
 descheduled h caller number i m it undenied is = scheduled_row i _ _ (rows_hold h caller number (Deschedule i) m it undenied is)
+
+-- what a command names is there
+pub missing_row : (h : History) (caller : Bytes) (number : ℕ) (command : Command) (m : ℕ) → denial h caller number command m ≡ None → first_missing (missing h command) ≡ None
+missing_row h caller number command m undenied =
+    (none_of (reasons h caller command m) (second_no (turn_denial (last h caller) number command) (command_denial h caller command m) undenied)).1.1.0
+
+pub item_there : (o : Option Item) → first_missing (absent (is_some o) thing.Item) ≡ None → is_some o ≡ true
+item_there None none = cc
+item_there (Some it) none = refl
+
+pub still_there : (f : Item → Item) (o : Option Item) → is_some o ≡ true → is_some (option_map f o) ≡ true
+still_there f None there = there
+still_there f (Some it) there = refl

@@ -21,8 +21,9 @@ use Rattle.news_types.specs.Conditions.{conditions_added, condition_count}
 use Rattle.news_types.specs.Filters.{filters, filters_after, changed as changed_filter}
 use Rattle.news_types.specs.Products.{products_added, product_count, subscribers, subscribers_after}
 use Rattle.news_types.specs.Routing.{schemes_added, scheme_count, providers_added, provider_count}
-use Rattle.news_types.specs.Publications.{standing_first}
-use Rattle.news_types.specs.Items.{Item, Made, Issue, Effect, New, NewAt, Replaces, Cancels, Settled, changed_by, settled, replaced_by, changed, named_item, items_by, items_by_command, items_by_effect, issued_by, issued_by_command, issued_by_effect, effect, pubs_of_issue, made, item_count, pubs, standing}
+use Rattle.news_types.specs.Due.{standing_first}
+use Rattle.news_types.specs.Items.{Item, Made, Effect, New, NewAt, Replaces, Cancels, Settled, changed_by, at_moment, replaced_by, changed, named_item, items_by, items_by_command, items_by_effect}
+use Rattle.news_types.specs.Publications.{Issue, issued_by, issued_by_command, issued_by_effect, effect, pubs_of_issue, made, item_count, pubs, standing}
 use Rattle.news_types.specs.Denial.{turn_denial, command_denial, denial, reasons, limit_of, full, limit_denial, items_full, pubs_full, new_item_denial}
 use Rattle.news_types.specs.Legal.{IsLegal, Follows}
 use Rattle.news_types.proofs.Members.{same_is}
@@ -127,7 +128,7 @@ filters_limited [] legal = omega arith
 filters_limited (e ∷ h) legal = filters_by h e.act e.moment legal.2 (filters_limited h legal.0)
 
 subscribers_step : (h : History) (command : Command) → limit_denial h command ≡ None → length (subscribers h) ≤ 256 → length (subscribers_after command (subscribers h)) ≤ 256
-subscribers_step h (AddSubscriber subscriber format products) e le = let lt = room thing.Subscriber (length (subscribers h)) e in omega (arith, lt)
+subscribers_step h (AddSubscriber subscriber format products lag) e le = let lt = room thing.Subscriber (length (subscribers h)) e in omega (arith, lt)
 subscribers_step h _ e le = le
 
 subscribers_by : (h : History) (act : Act) (m : ℕ) → Follows h act m → length (subscribers h) ≤ 256 → length (by_command subscribers_after act (subscribers h)) ≤ 256
@@ -150,7 +151,7 @@ items_step : (h : History) (m : ℕ) (caller : Bytes) (command : Command) → li
 items_step h m caller (Create desk story) e le = one_item ((made h).items) _ (room thing.Item (item_count h) e)
 items_step h m caller (Flash story targets) e le = one_item ((made h).items) _ (room thing.Item (item_count h) (first_no (items_full h) (pubs_full h) e))
 items_step h m caller command e le =
-    same_items (named_item command) (λ it. changed_by caller command (settled m (standing_first (named_item command) (standing h)) it)) ((made h).items) le
+    same_items (named_item command) (λ it. changed_by caller command (at_moment m (standing_first (named_item command) (standing h)) it)) ((made h).items) le
 
 items_effect : (h : History) (name : Bytes) (come : Incoming) (given : Effect) → new_item_denial h given ≡ None → item_count h ≤ 262144 → length (items_by_effect (made h) name come given) ≤ 262144
 items_effect h name come New e le = one_item ((made h).items) _ (room thing.Item (item_count h) e)

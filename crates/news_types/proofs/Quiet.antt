@@ -6,82 +6,88 @@ use Rattle.std.proofs.lemmas.Bool.{cases_lt}
 use Rattle.std.proofs.lemmas.Bool.Decides.{nat_tests}
 use Rattle.news_types.specs.declared.entry.Act.{Act}
 use Rattle.news_types.specs.declared.entry.Act.TheVariants.{Advance, Attempt, Receipt, Halt}
+use Rattle.news_types.specs.declared.query.Due.{Due}
 use Rattle.news_types.specs.Names.{Bytes}
 use Rattle.news_types.specs.History.{History, moment}
-use Rattle.news_types.specs.Publications.{Pub}
-use Rattle.news_types.specs.Items.{standing}
-use Rattle.news_types.specs.Feeds.{is_out, is_waiting, due_to, feed_of, waiting_of, feed, waiting}
-use Rattle.news_types.specs.Legal.{some_waits, IsLegal}
+use Rattle.news_types.specs.Due.{Pub}
+use Rattle.news_types.specs.Publications.{standing}
+use Rattle.news_types.specs.Feeds.{Dispatch, dispatch, is_out, is_waiting, due_to, feed_of, waiting_of, feed, waiting}
+use Rattle.news_types.specs.Legal.{comes_by, is_coming, some_waits, IsLegal}
 use Rattle.news_types.specs.Calls.{ticked}
 use Rattle.news_types.specs.Members.{Each}
-use Rattle.news_types.proofs.Numbering.{each_due_to}
+use Rattle.news_types.proofs.Dues.{each_release}
+use Rattle.news_types.proofs.Numbering.{GoesOver, each_due_to}
 
 -- no release lies above r and at most m
-abbrev pub IsQuiet : ℕ → ℕ → Pub → Type 0
-IsQuiet r m p = (nat_lt r p.release && nat_le p.release m) ≡ false
+abbrev pub IsQuiet : ℕ → ℕ → Dispatch → Type 0
+IsQuiet r m d = comes_by r m d.release ≡ false
+
+-- neither the publication's own nor one for those to whom it is due
+abbrev pub IsCalm : ℕ → ℕ → Pub → Type 0
+IsCalm r m p = is_coming r m p ≡ false
 
 neither : (a b : Bool) → (a || b) ≡ false → (a ≡ false) × (b ≡ false)
 neither true b e = cc
 neither false b e = (refl, e)
 
-quiet_all : (r m : ℕ) (ps : List Pub) → list_any (λ (p : Pub). nat_lt r p.release && nat_le p.release m) ps ≡ false → Each (IsQuiet r m) ps
-quiet_all r m [] e = tt
-quiet_all r m (p ∷ ps) e =
-    let both = neither (nat_lt r p.release && nat_le p.release m) (list_any (λ (p : Pub). nat_lt r p.release && nat_le p.release m) ps) e in
-    (both.0, quiet_all r m ps both.1)
+pub none_any : {A : Type 0} (t : A → Bool) (xs : List A) → list_any t xs ≡ false → Each (λ (x : A). t x ≡ false) xs
+none_any t [] e = tt
+none_any t (x ∷ xs) e = let both = neither (t x) (list_any t xs) e in (both.0, none_any t xs both.1)
 
-out_alike : (r m : ℕ) (p : Pub) → r ≤ m → IsQuiet r m p → is_out m p ≡ is_out r p
-out_alike r m p le quiet =
-    elim (cases_lt r p.release) [
+calm_quiet : (r m : ℕ) (s : Bytes) → GoesOver (IsCalm r m) s (IsQuiet r m)
+calm_quiet r m s p release calm is =
+    each_release (λ (n : ℕ). comes_by r m n ≡ false) s p.due release (none_any (λ (d : Due). comes_by r m d.release) p.due (neither (comes_by r m p.release) _ calm).1) is
+
+out_alike : (r m : ℕ) (d : Dispatch) → r ≤ m → IsQuiet r m d → is_out m d ≡ is_out r d
+out_alike r m d le quiet =
+    elim (cases_lt r d.release) [
       | inl lt ↦
-          let waits : nat_lt r p.release ≡ true = grind (arith, nat_tests) in
-          let early : nat_le p.release r ≡ false = grind (arith, nat_tests) in
-          sym (ap (λ b. b && nat_le p.release m) waits) ∙ quiet ∙ sym early
+          let waits : nat_lt r d.release ≡ true = grind (arith, nat_tests) in
+          let early : nat_le d.release r ≡ false = grind (arith, nat_tests) in
+          sym (ap (λ b. b && nat_le d.release m) waits) ∙ quiet ∙ sym early
       | inr out ↦
-          let now : nat_le p.release r ≡ true = grind (arith, nat_tests) in
-          let later : nat_le p.release m ≡ true = grind (arith, nat_tests) in
+          let now : nat_le d.release r ≡ true = grind (arith, nat_tests) in
+          let later : nat_le d.release m ≡ true = grind (arith, nat_tests) in
           later ∙ sym now
     ]
 
-waiting_alike : (r m : ℕ) (p : Pub) → r ≤ m → IsQuiet r m p → is_waiting m p ≡ is_waiting r p
-waiting_alike r m p le quiet =
-    elim (cases_lt r p.release) [
+waiting_alike : (r m : ℕ) (d : Dispatch) → r ≤ m → IsQuiet r m d → is_waiting m d ≡ is_waiting r d
+waiting_alike r m d le quiet =
+    elim (cases_lt r d.release) [
       | inl lt ↦
-          let waits : nat_lt r p.release ≡ true = grind (arith, nat_tests) in
-          let early : nat_le p.release m ≡ false = sym (ap (λ b. b && nat_le p.release m) waits) ∙ quiet in
-          let still : nat_lt m p.release ≡ true = grind (arith, nat_tests) in
+          let waits : nat_lt r d.release ≡ true = grind (arith, nat_tests) in
+          let early : nat_le d.release m ≡ false = sym (ap (λ b. b && nat_le d.release m) waits) ∙ quiet in
+          let still : nat_lt m d.release ≡ true = grind (arith, nat_tests) in
           still ∙ sym waits
       | inr out ↦
-          let now : nat_lt r p.release ≡ false = grind (arith, nat_tests) in
-          let later : nat_lt m p.release ≡ false = grind (arith, nat_tests) in
+          let now : nat_lt r d.release ≡ false = grind (arith, nat_tests) in
+          let later : nat_lt m d.release ≡ false = grind (arith, nat_tests) in
           later ∙ sym now
     ]
 
-filter_alike : (t u : Pub → Bool) (ps : List Pub) → Each (λ (p : Pub). t p ≡ u p) ps → filter t ps ≡ filter u ps
+filter_alike : (t u : Dispatch → Bool) (ds : List Dispatch) → Each (λ (d : Dispatch). t d ≡ u d) ds → filter t ds ≡ filter u ds
 filter_alike t u [] all = refl
-filter_alike t u (p ∷ ps) all = rw (all.0, filter_alike t u ps all.1) refl
-
-alike_all : (t u : Pub → Bool) (r m : ℕ) (ps : List Pub) → ((p : Pub) → IsQuiet r m p → t p ≡ u p) → Each (IsQuiet r m) ps → Each (λ (p : Pub). t p ≡ u p) ps
-alike_all t u r m [] alike all = tt
-alike_all t u r m (p ∷ ps) alike all = (alike p all.0, alike_all t u r m ps alike all.1)
+filter_alike t u (d ∷ ds) all = rw (all.0, filter_alike t u ds all.1) refl
 
 -- publications of which none is released above r and by m
-pub quiet_feed : (ps : List Pub) (r m : ℕ) (s : Bytes) → r ≤ m → Each (IsQuiet r m) ps → feed_of ps m s ≡ feed_of ps r s
-quiet_feed ps r m s le quiet =
-    filter_alike (is_out m) (is_out r) (due_to s ps) (alike_all (is_out m) (is_out r) r m (due_to s ps) (λ p calm. out_alike r m p le calm) (each_due_to (IsQuiet r m) s ps quiet))
+pub quiet_feed : (ps : List Pub) (r m : ℕ) (s : Bytes) → r ≤ m → Each (IsCalm r m) ps → feed_of ps m s ≡ feed_of ps r s
+quiet_feed ps r m s le calm =
+    filter_alike (is_out m) (is_out r) (due_to s ps)
+    (each_due_to (IsCalm r m) (λ (d : Dispatch). is_out m d ≡ is_out r d) s ps (λ p release one is. out_alike r m (dispatch p release) le (calm_quiet r m s p release one is)) calm)
 
-pub quiet_waiting : (ps : List Pub) (r m : ℕ) (s : Bytes) → r ≤ m → Each (IsQuiet r m) ps → waiting_of ps m s ≡ waiting_of ps r s
-quiet_waiting ps r m s le quiet =
-    filter_alike (is_waiting m) (is_waiting r) (due_to s ps) (alike_all (is_waiting m) (is_waiting r) r m (due_to s ps) (λ p calm. waiting_alike r m p le calm) (each_due_to (IsQuiet r m) s ps quiet))
+pub quiet_waiting : (ps : List Pub) (r m : ℕ) (s : Bytes) → r ≤ m → Each (IsCalm r m) ps → waiting_of ps m s ≡ waiting_of ps r s
+quiet_waiting ps r m s le calm =
+    filter_alike (is_waiting m) (is_waiting r) (due_to s ps)
+    (each_due_to (IsCalm r m) (λ (d : Dispatch). is_waiting m d ≡ is_waiting r d) s ps (λ p release one is. waiting_alike r m (dispatch p release) le (calm_quiet r m s p release one is)) calm)
 
 -- ---- entries that publish and withdraw nothing
 
 -- where nothing that waits is released by m, the feeds at m are those at the last entry
 pub still_feed : (g : History) (m : ℕ) (s : Bytes) → moment g ≤ m → some_waits g m ≡ false → feed_of (standing g) m s ≡ feed g s
-still_feed g m s le calm = quiet_feed (standing g) (moment g) m s le (quiet_all (moment g) m (standing g) calm)
+still_feed g m s le calm = quiet_feed (standing g) (moment g) m s le (none_any (is_coming (moment g) m) (standing g) calm)
 
 pub still_waiting : (g : History) (m : ℕ) (s : Bytes) → moment g ≤ m → some_waits g m ≡ false → waiting_of (standing g) m s ≡ waiting g s
-still_waiting g m s le calm = quiet_waiting (standing g) (moment g) m s le (quiet_all (moment g) m (standing g) calm)
+still_waiting g m s le calm = quiet_waiting (standing g) (moment g) m s le (none_any (is_coming (moment g) m) (standing g) calm)
 
 -- an act that is no request and no ingest
 abbrev pub IsPlain : Act → Type 0
@@ -115,9 +121,8 @@ halt_feed g m s le calm = still_feed g m s le calm
 
 -- ---- behind a tick nothing waits that is released by its moment
 
-none_between : (m : ℕ) (ps : List Pub) → list_any (λ (p : Pub). nat_lt m p.release && nat_le p.release m) ps ≡ false
-none_between m [] = refl
-none_between m (p ∷ ps) = let one : (nat_lt m p.release && nat_le p.release m) ≡ false = apart p.release in rw (one, none_between m ps) refl
+none_between : (m : ℕ) (r : ℕ) → comes_by m m r ≡ false
+none_between m r = apart r
   where
     apart : (r : ℕ) → (nat_lt m r && nat_le r m) ≡ false
     apart r = elim (cases_lt m r) [
@@ -125,11 +130,19 @@ none_between m (p ∷ ps) = let one : (nat_lt m p.release && nat_le p.release m)
       | inr le ↦ let a : nat_lt m r ≡ false = grind (arith, nat_tests) in rw a refl
     ]
 
+no_due : (m : ℕ) (due : List Due) → list_any (λ (d : Due). comes_by m m d.release) due ≡ false
+no_due m [] = refl
+no_due m (d ∷ due) = rw (none_between m d.release, no_due m due) refl
+
+no_pubs : (m : ℕ) (ps : List Pub) → list_any (is_coming m m) ps ≡ false
+no_pubs m [] = refl
+no_pubs m (p ∷ ps) = rw (none_between m p.release, no_due m p.due, no_pubs m ps) refl
+
 pub ticked_calm : (h : History) (m : ℕ) → some_waits (ticked h m) m ≡ false
 ticked_calm h m = by (some_waits h m) refl
   where
     by : (b : Bool) → some_waits h m ≡ b → some_waits (ticked h m) m ≡ false
-    by true e = rw e (none_between m (standing h))
+    by true e = rw e (no_pubs m (standing h))
     by false e = rw e e
 
 pub ticked_moment : (h : History) (m : ℕ) → moment h ≤ m → moment (ticked h m) ≤ m

@@ -8,8 +8,9 @@ use Rattle.news_types.specs.declared.command.Command.TheVariants.{Flash, Publish
 use Rattle.news_types.specs.declared.story.Incoming.{Incoming}
 use Rattle.news_types.specs.Names.{Bytes, same}
 use Rattle.news_types.specs.History.{History, moment}
-use Rattle.news_types.specs.Publications.{Pub}
-use Rattle.news_types.specs.Items.{Item, Made, Issue, Effect, NewAt, made, issued_by, issued_by_command, issued_by_effect, effect_by, pubs_of_issue, pubs_of_item}
+use Rattle.news_types.specs.Due.{Pub}
+use Rattle.news_types.specs.Items.{Item, Made, Effect, NewAt, effect_by}
+use Rattle.news_types.specs.Publications.{Issue, made, issued_by, issued_by_command, issued_by_effect, pubs_of_issue, pubs_of_item}
 use Rattle.news_types.specs.Delivery.{tried, tried_after}
 use Rattle.news_types.specs.Legal.{IsLegal}
 use Rattle.news_types.specs.Members.{Each}

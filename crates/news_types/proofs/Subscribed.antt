@@ -1,6 +1,6 @@
 -- Who is a subscriber: it is there from the command that adds it on, and those to whom something is due are there.
-use Rattle.std.proofs.Common.{◌≡◌, ℕ, Bool, true, false, not, ◌||◌, cond, Option, Some, None, List, [], ◌∷◌, refl, sym, ap, ◌∙◌}
-use Rattle.std.specs.Prelude.{is_some}
+use Rattle.std.proofs.Common.{◌≡◌, ◌==◌, ℕ, Bool, true, false, not, ◌||◌, cond, Option, Some, None, List, [], ◌∷◌, refl, sym, ap, ◌∙◌}
+use Rattle.std.specs.Prelude.{is_some, unwrap_or}
 use mathlib.Core.Bool.{true≢false}
 use Rattle.std.specs.List.{filter}
 use Rattle.std.specs.Option.{option_map}
@@ -11,19 +11,21 @@ use Rattle.news_types.specs.declared.command.Command.{Command}
 use Rattle.news_types.specs.declared.command.Command.TheVariants.{AddSubscriber, SetSubscriber}
 use Rattle.news_types.specs.declared.denial.Denial.TheVariants.{NameTaken}
 use Rattle.news_types.specs.Names.{Bytes, same, is_in}
-use Rattle.news_types.specs.History.{History, moment, last, by_command}
+use Rattle.news_types.specs.History.{History, last, by_command}
 use Rattle.news_types.specs.Products.{Subscriber, subscriber, subscriber_after, is_subscriber, subscribers, subscribers_after}
-use Rattle.news_types.specs.Publications.{Pub}
-use Rattle.news_types.specs.Items.{Item, Made, Issue, made, pubs, standing, issued_by, pubs_of_item, pubs_of_issue}
-use Rattle.news_types.specs.Feeds.{is_due, is_out, is_waiting, ordered, due_to, feed, waiting}
+use Rattle.news_types.specs.Due.{Pub, release_to, is_due, given_by, left_behind, release_for, due_names}
+use Rattle.news_types.specs.Items.{Item, Made}
+use Rattle.news_types.specs.Publications.{Issue, made, standing, issued_by, pub_of, pubs_of_item, pubs_of_issue, kept_by}
+use Rattle.news_types.specs.Feeds.{Dispatch, feed, waiting}
 use Rattle.news_types.specs.Frames.{format_of, format}
 use Rattle.news_types.specs.Denial.{unless, turn_denial, reasons, command_denial, denial, is_taken}
 use Rattle.news_types.specs.Legal.{IsLegal, Follows}
 use Rattle.news_types.specs.Members.{Each}
-use Rattle.news_types.proofs.Members.{same_is, same_self, each_map, each_append, each_filter, each_get, each_passes}
+use Rattle.news_types.proofs.Members.{same_is, same_self, each_map, each_append}
 use Rattle.news_types.proofs.Legal.{second_no, holds_unless, none_of}
 use Rattle.news_types.proofs.Bounds.{new_pubs}
-use Rattle.news_types.proofs.Numbering.{IsAmong, each_feed, each_waiting, standing_among}
+use Rattle.news_types.proofs.Numbering.{GoesOver, each_feed, each_waiting}
+use Rattle.news_types.proofs.Dues.{listed_due, given_had, each_kept}
 
 -- ---- names
 
@@ -53,10 +55,10 @@ set_there false f before = refl
 -- the list of names and the facts by name tell of the same subscribers
 listed_step : (act : Act) (s : Bytes) (names : List Bytes) (before : Option Subscriber) → is_in s names ≡ is_some before
     → is_in s (by_command subscribers_after act names) ≡ is_some (by_command (subscriber_after s) act before)
-listed_step (Request caller number (AddSubscriber t f products)) s names before is =
-    rw (same_turned s t) (elim (same t s) as (λ b. (b || is_in s names) ≡ is_some (cond b (Some (record { format = f; active = true; products = products; off = [] })) before)) [ true ↦ refl | false ↦ is ])
-listed_step (Request caller number (SetSubscriber t active products off)) s names before is =
-    is ∙ sym (set_there (same t s) (λ (x : Subscriber). record x { active = active; products = products; off = off }) before)
+listed_step (Request caller number (AddSubscriber t f products lag)) s names before is =
+    rw (same_turned s t) (elim (same t s) as (λ b. (b || is_in s names) ≡ is_some (cond b (Some (record { format = f; active = true; products = products; off = []; lag = lag })) before)) [ true ↦ refl | false ↦ is ])
+listed_step (Request caller number (SetSubscriber t active products off lag)) s names before is =
+    is ∙ sym (set_there (same t s) (λ (x : Subscriber). record x { active = active; products = products; off = off; lag = unwrap_or lag x.lag }) before)
 listed_step (Request caller number command) s names before is = is
 listed_step _ s names before is = is
 
@@ -65,9 +67,9 @@ listed_is [] s = refl
 listed_is (e ∷ h) s = listed_step e.act s (subscribers h) (subscriber h s) (listed_is h s)
 
 stays_step : (act : Act) (s : Bytes) (before : Option Subscriber) → is_some before ≡ true → is_some (by_command (subscriber_after s) act before) ≡ true
-stays_step (Request caller number (AddSubscriber t f products)) s before there =
-    elim (same t s) as (λ b. is_some (cond b (Some (record { format = f; active = true; products = products; off = [] })) before) ≡ true) [ true ↦ refl | false ↦ there ]
-stays_step (Request caller number (SetSubscriber t active products off)) s before there = set_there (same t s) _ before ∙ there
+stays_step (Request caller number (AddSubscriber t f products lag)) s before there =
+    elim (same t s) as (λ b. is_some (cond b (Some (record { format = f; active = true; products = products; off = []; lag = lag })) before) ≡ true) [ true ↦ refl | false ↦ there ]
+stays_step (Request caller number (SetSubscriber t active products off lag)) s before there = set_there (same t s) _ before ∙ there
 stays_step (Request caller number command) s before there = there
 stays_step _ s before there = there
 
@@ -96,21 +98,21 @@ taken_row h caller number command m undenied =
 pub not_taken : (h : History) (caller : Bytes) (number : ℕ) (command : Command) (m : ℕ) → denial h caller number command m ≡ None → is_taken h command ≡ false
 not_taken h caller number command m undenied = not_true _ (holds_unless _ _ (taken_row h caller number command m undenied))
 
-set_format : (who : Option Subscriber) (active : Bool) (products off : List Bytes)
-    → format_of (option_map (λ (s : Subscriber). record s { active = active; products = products; off = off }) who) ≡ format_of who
-set_format None active products off = refl
-set_format (Some who) active products off = refl
+set_format : (who : Option Subscriber) (active : Bool) (products off : List Bytes) (lag : Option ℕ)
+    → format_of (option_map (λ (s : Subscriber). record s { active = active; products = products; off = off; lag = unwrap_or lag s.lag }) who) ≡ format_of who
+set_format None active products off lag = refl
+set_format (Some who) active products off lag = refl
 
 format_step : (h : History) (act : Act) (m : ℕ) (s : Bytes) → Follows h act m → is_subscriber h s ≡ true → format_of (by_command (subscriber_after s) act (subscriber h s)) ≡ format_of (subscriber h s)
-format_step h (Request caller number (AddSubscriber t f products)) m s follows here =
-    let new : is_subscriber h t ≡ false = not_taken h caller number (AddSubscriber t f products) m follows.1 in
-    elim (same t s) as (λ b. same t s ≡ b → format_of (cond b (Some (record { format = f; active = true; products = products; off = [] })) (subscriber h s)) ≡ format_of (subscriber h s)) [
+format_step h (Request caller number (AddSubscriber t f products lag)) m s follows here =
+    let new : is_subscriber h t ≡ false = not_taken h caller number (AddSubscriber t f products lag) m follows.1 in
+    elim (same t s) as (λ b. same t s ≡ b → format_of (cond b (Some (record { format = f; active = true; products = products; off = []; lag = lag })) (subscriber h s)) ≡ format_of (subscriber h s)) [
       | true ↦ λ alike. absurd (true≢false (sym here ∙ ap (is_subscriber h) (sym (same_is t s alike)) ∙ new))
       | false ↦ λ other. refl
     ] refl
-format_step h (Request caller number (SetSubscriber t active products off)) m s follows here =
-    elim (same t s) as (λ b. format_of (cond b (option_map (λ (x : Subscriber). record x { active = active; products = products; off = off }) (subscriber h s)) (subscriber h s)) ≡ format_of (subscriber h s)) [
-      | true ↦ set_format (subscriber h s) active products off
+format_step h (Request caller number (SetSubscriber t active products off lag)) m s follows here =
+    elim (same t s) as (λ b. format_of (cond b (option_map (λ (x : Subscriber). record x { active = active; products = products; off = off; lag = unwrap_or lag x.lag }) (subscriber h s)) (subscriber h s)) ≡ format_of (subscriber h s)) [
+      | true ↦ set_format (subscriber h s) active products off lag
       | false ↦ refl
     ]
 format_step h (Request caller number command) m s follows here = refl
@@ -139,14 +141,21 @@ in_filter s t (x ∷ names) listed = by (t x) (same s x) listed (in_filter s t n
 
 -- those to whom it is due are subscribers
 abbrev pub IsToKnown : History → Pub → Type 0
-IsToKnown h p = (t : Bytes) → is_in t p.due ≡ true → is_subscriber h t ≡ true
+IsToKnown h p = (t : Bytes) → is_due t p ≡ true → is_subscriber h t ≡ true
 
 known_more : (e : Entry) (h : History) (p : Pub) → IsToKnown h p → IsToKnown (e ∷ h) p
 known_more e h p known t due = subscriber_stays e h t (known t due)
 
+some_if : (b : Bool) (r : ℕ) → is_some (cond b (Some r) None) ≡ true → b ≡ true
+some_if true r there = refl
+some_if false r there = there
+
 known_item : (h : History) (w : Made) (issue : Issue) (o : Option Item) → Each (IsToKnown h) (pubs_of_item h w issue o)
 known_item h w issue None = tt
-known_item h w issue (Some it) = (λ t due. sym (listed_is h t) ∙ in_filter t _ (subscribers h) due, tt)
+known_item h w issue (Some it) =
+    let f : Bytes → ℕ = release_for h w.standing issue.kind issue.item issue.release in
+    let names : List Bytes = due_names h w.standing issue.kind issue.item (pub_of h w issue it).story issue.release issue.targets in
+    (λ t due. sym (listed_is h t) ∙ in_filter t _ (subscribers h) (some_if (is_in t names) (f t) (sym (ap is_some (listed_due f t names)) ∙ due)), tt)
 
 known_issue : (h : History) (w : Made) (o : Option Issue) → Each (IsToKnown h) (pubs_of_issue h w o)
 known_issue h w None = tt
@@ -156,32 +165,38 @@ known_issue h w (Some issue) = known_item h w issue issue.after
 pub new_are_known : (e : Entry) (h : History) → Each (IsToKnown h) (new_pubs e h)
 new_are_known e h = known_issue h (made h) (issued_by h (made h) e.moment e.act)
 
-pub pubs_are_known : (h : History) → Each (IsToKnown h) (pubs h)
-pubs_are_known [] = tt
-pubs_are_known (e ∷ h) =
-    each_append (IsToKnown (e ∷ h)) (new_pubs e h) (pubs h)
-    (each_map (IsToKnown h) (IsToKnown (e ∷ h)) (new_pubs e h) (known_more e h) (new_are_known e h))
-    (each_map (IsToKnown h) (IsToKnown (e ∷ h)) (pubs h) (known_more e h) (pubs_are_known h))
+known_left : (h : History) (m i : ℕ) (p : Pub) → IsToKnown h p → IsToKnown h (left_behind m i p)
+known_left h m i p known t due = known t (was (p.item == i) due)
+  where
+    was : (b : Bool) → is_some (release_to t (cond b (given_by m p.due) p.due)) ≡ true → is_some (release_to t p.due) ≡ true
+    was true there = given_had _ t p.due there
+    was false there = there
 
 pub standing_are_known : (h : History) → Each (IsToKnown h) (standing h)
-standing_are_known h =
-    each_map (IsAmong (pubs h)) (IsToKnown h) (standing h) (λ p among. each_get (IsToKnown h) (pubs h) among.0 p (pubs_are_known h) among.1) (standing_among h)
+standing_are_known [] = tt
+standing_are_known (e ∷ h) =
+    each_append (IsToKnown (e ∷ h)) (new_pubs e h) (kept_by e.moment e.act (standing h))
+    (each_map (IsToKnown h) (IsToKnown (e ∷ h)) (new_pubs e h) (known_more e h) (new_are_known e h))
+    (each_map (IsToKnown h) (IsToKnown (e ∷ h)) (kept_by e.moment e.act (standing h)) (known_more e h) (each_kept (IsToKnown h) (known_left h) e.moment e.act (standing h) (standing_are_known h)))
 
 -- ---- who has something in a feed is a subscriber
 
-due_all : (s : Bytes) (ps : List Pub) → Each (λ (q : Pub). is_due s q ≡ true) (due_to s ps)
-due_all s ps = each_passes (λ (q : Pub). is_due s q ≡ true) (is_due s) (ordered ps) (λ q due. due)
+-- who has a dispatch is a subscriber
+abbrev pub IsForKnown : History → Bytes → Dispatch → Type 0
+IsForKnown h s d = is_subscriber h s ≡ true
 
-none_of_absent : (h : History) (s : Bytes) (ps : List Pub) → Each (IsToKnown h) ps → Each (λ (q : Pub). is_due s q ≡ true) ps → is_subscriber h s ≡ false → ps ≡ []
-none_of_absent h s [] known due absent = refl
-none_of_absent h s (p ∷ ps) known due absent = absurd (true≢false (sym (known.0 s due.0) ∙ absent))
+for_known : (h : History) (s : Bytes) → GoesOver (IsToKnown h) s (IsForKnown h s)
+for_known h s p r known is = known s (ap is_some is)
+
+none_of_absent : (h : History) (s : Bytes) (ds : List Dispatch) → Each (IsForKnown h s) ds → is_subscriber h s ≡ false → ds ≡ []
+none_of_absent h s [] known absent = refl
+none_of_absent h s (d ∷ ds) known absent = absurd (true≢false (sym known.0 ∙ absent))
+
+pub feed_is_known : (h : History) (s : Bytes) → Each (IsForKnown h s) (feed h s)
+feed_is_known h s = each_feed (IsToKnown h) (IsForKnown h s) h s (for_known h s) (standing_are_known h)
 
 pub absent_feed : (h : History) (s : Bytes) → is_subscriber h s ≡ false → feed h s ≡ []
-absent_feed h s absent =
-    none_of_absent h s (feed h s) (each_feed (IsToKnown h) h s (standing_are_known h))
-    (each_filter (λ (q : Pub). is_due s q ≡ true) (is_out (moment h)) (due_to s (standing h)) (due_all s (standing h))) absent
+absent_feed h s absent = none_of_absent h s (feed h s) (feed_is_known h s) absent
 
 pub absent_waiting : (h : History) (s : Bytes) → is_subscriber h s ≡ false → waiting h s ≡ []
-absent_waiting h s absent =
-    none_of_absent h s (waiting h s) (each_waiting (IsToKnown h) h s (standing_are_known h))
-    (each_filter (λ (q : Pub). is_due s q ≡ true) (is_waiting (moment h)) (due_to s (standing h)) (due_all s (standing h))) absent
+absent_waiting h s absent = none_of_absent h s (waiting h s) (each_waiting (IsToKnown h) (IsForKnown h s) h s (for_known h s) (standing_are_known h)) absent

@@ -3,8 +3,9 @@ use Rattle.std.proofs.Common.{◌≡◌, ◌==◌, ℕ, ◌<◌, ◌≤◌, Bool
 use Rattle.std.specs.List.{filter}
 use Rattle.std.proofs.lemmas.Bool.Decides.{nat_tests}
 use Rattle.news_types.specs.History.{History}
-use Rattle.news_types.specs.Publications.{Pub, is_first_of, standing_first, withdrawn}
-use Rattle.news_types.specs.Items.{Item, item, standing}
+use Rattle.news_types.specs.Due.{Pub, is_first_of, standing_first, withdrawn}
+use Rattle.news_types.specs.Items.{Item}
+use Rattle.news_types.specs.Publications.{item, standing}
 use Rattle.news_types.specs.Legal.{IsLegal}
 use Rattle.news_types.specs.Members.{Each}
 use Rattle.news_types.proofs.Members.{some_is, none_some}

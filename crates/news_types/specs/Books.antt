@@ -11,10 +11,10 @@ pub record Book : Type 0 where
   pub list : History
 
 -- the list, with these entries put to it one after another
-abbrev pub behind : List Entry → History → History
-behind [] h = h
-behind (e ∷ es) h = behind es (e ∷ h)
+abbrev pub followed_by : List Entry → History → History
+followed_by [] h = h
+followed_by (e ∷ es) h = followed_by es (e ∷ h)
 
 -- the book with these entries more, one after another
 abbrev pub onto : List Entry → Book → Book
-onto more b = record { store = b.store; told = b.told; list = behind more b.list }
+onto more b = record { store = b.store; told = b.told; list = followed_by more b.list }

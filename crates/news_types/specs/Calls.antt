@@ -1,8 +1,8 @@
 -- What a call is answered, and which entry follows.
-use Rattle.std.specs.Prelude.{ℕ, zero, suc, ◌+◌, Bool, true, false, List, [], ◌∷◌, length, if◌then◌else◌, nat_lt, nat_le, Option, Some, None}
+use Rattle.std.specs.Prelude.{ℕ, suc, ◌+◌, Bool, true, false, List, [], ◌∷◌, length, if◌then◌else◌, nat_le, Option, Some, None}
 use Rattle.news_types.specs.declared.entry.Entry.{Entry}
 use Rattle.news_types.specs.declared.entry.Act.{Act}
-use Rattle.news_types.specs.declared.entry.Act.TheVariants.{Advance, Attempt, Receipt, Halt, Ingest, Request}
+use Rattle.news_types.specs.declared.entry.Act.TheVariants.{Advance, Attempt, Halt}
 use Rattle.news_types.specs.declared.command.Command.{Command}
 use Rattle.news_types.specs.declared.story.Incoming.{Incoming}
 use Rattle.news_types.specs.declared.query.Query.{Query}
@@ -13,9 +13,9 @@ use Rattle.news_types.specs.Names.{Bytes}
 use Rattle.news_types.specs.History.{History}
 use Rattle.news_types.specs.Delivery.{choice}
 use Rattle.news_types.specs.Legal.{some_waits}
-use Rattle.news_types.specs.Outcome.{Answered, Done, Repeat, Denied, entry_of, request_at, ingest_at, receipt_at}
-use Rattle.news_types.specs.Answers.{answer as told}
-use Rattle.news_types.specs.Frames.{Frame, Writer, frame_at, frame_bytes}
+use Rattle.news_types.specs.Outcome.{Answered, Done, entry_of, request_at, ingest_at, receipt_at}
+use Rattle.news_types.specs.Answers.{query_answer as told}
+use Rattle.news_types.specs.Frames.{Frame, Writer, frame_at, frame_bytes_at}
 
 -- a call of the core
 pub data Call : Type 0 where
@@ -58,13 +58,6 @@ abbrev pub is_done : Answer → Bool
 is_done (Replied answered) = is_done_reply answered
 is_done _ = false
 
--- no answer of the list
-abbrev pub is_own : Answer → Bool
-is_own Full = true
-is_own Fault = true
-is_own Memory = true
-is_own _ = false
-
 abbrev pub entry_if : Bool → ℕ → Act → Option Entry
 entry_if b m act = if b then Some (entry_of m act) else None
 
@@ -90,10 +83,6 @@ more (Some e) h = e ∷ h
 abbrev pub ticked : History → ℕ → History
 ticked h m = more (follow h Ticked m) h
 
-abbrev pub frame_for : Writer → History → Ready → Option Frame
-frame_for write g (Now s k) = frame_at write g s k
-frame_for write g (Later next) = None
-
 abbrev pub job : Writer → History → Ready → Answer
 job write g (Now s k) = Job s k (frame_at write g s k) (length g + 1)
 job write g (Later next) = Idle next
@@ -105,7 +94,7 @@ answer write h (Ingested name come) m = Replied ((ingest_at h name come m).answe
 answer write h (Receipted s n) m = Replied ((receipt_at h s n m).answer)
 answer write h Ticked m = if some_waits h m then Kept (length h + 1) else Still
 answer write h Halted m = Kept (length h + 1)
-answer write h (Asked query) m = Tells (told (frame_bytes write h) h query)
+answer write h (Asked query) m = Tells (told (frame_bytes_at write h) h query)
 answer write h (Claimed names) m = job write (ticked h m) (choice (ticked h m) names m)
 
 -- what happens to an entry that would follow, or to the call for want of memory

@@ -7,6 +7,10 @@ use Rattle.news_types.specs.declared.story.Incoming.{Incoming}
 abbrev pub IsMoment : ℕ → Type 0
 IsMoment m = m < 253402300800
 
+-- seconds of a week at most
+abbrev pub FitsLag : ℕ → Type 0
+FitsLag lag = lag ≤ 604800
+
 pub record FitsStory (s : Story) : Type 0 where
   pub urgency : s.urgency ≤ 9
   pub slugline : length s.slugline ≤ 500
@@ -14,7 +18,8 @@ pub record FitsStory (s : Story) : Type 0 where
   pub byline : length s.byline ≤ 500
   pub language : length s.language ≤ 35
   pub category : length s.category ≤ 3
-  pub body : length s.body ≤ 262144
+  pub body : length s.body ≤ 524288
+  pub copyright : length s.copyright ≤ 500
 
 -- a story that comes in
 pub record FitsIncoming (i : Incoming) : Type 0 where

@@ -9,8 +9,9 @@ pub mod Products
 pub mod Clock
 pub mod Routing
 pub mod States
-pub mod Publications
+pub mod Due
 pub mod Items
+pub mod Publications
 pub mod Feeds
 pub mod Delivery
 pub mod Denial
@@ -24,3 +25,7 @@ pub mod Calls
 pub mod Server
 pub mod Books
 pub mod Fits
+pub mod FitsCommands
+pub mod Receiver
+pub mod Doubt
+pub mod Equality

@@ -10,7 +10,8 @@ use Rattle.news_types.specs.declared.denial.Denial.{Denial}
 use Rattle.news_types.specs.declared.story.Incoming.{Incoming}
 use Rattle.news_types.specs.Names.{Bytes, same}
 use Rattle.news_types.specs.History.{History, moment_at, last}
-use Rattle.news_types.specs.Items.{Issue, Effect, New, NewAt, Replaces, Cancels, Settled, made, named_item, item_count, pubs, issued_by, effect}
+use Rattle.news_types.specs.Items.{Effect, New, NewAt, Replaces, Cancels, Settled, named_item}
+use Rattle.news_types.specs.Publications.{Issue, made, item_count, pubs, issued_by, effect}
 use Rattle.news_types.specs.Delivery.{acked}
 use Rattle.news_types.specs.Denial.{command_denial, turn_denial, is_repeat, ingest_denial, receipt_denial}
 

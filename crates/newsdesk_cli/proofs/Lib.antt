@@ -1,4 +1,3 @@
-pub mod Limits
 pub mod Desks
 pub mod Outputs
 pub mod Stores

@@ -1,22 +1,19 @@
 -- What was written, and how far.
-use Rattle.std.proofs.Common.{◌≡◌, ◌∙◌, ℕ, List, [], ◌∷◌, ◌++◌, length, take, refl, ap, subst}
-use Rattle.std.specs.Prelude.{Result, Ok, Err, OnErr}
-use Rattle.news_io.specs.Faults.{Rose, Counts}
+use Rattle.std.proofs.Common.{◌≡◌, ◌≤◌, ℕ, List, ◌++◌, length, take}
+use Rattle.std.specs.Prelude.{Result, Ok, Err, OnOk, OnErr}
+use Rattle.news_io.specs.Faults.{Counts}
+use Rattle.news_io.specs.Sink.{SinkMeaning}
 use Rattle.news_io.specs.declared.faults.Failed.{Failed}
-use Rattle.newsdesk_cli.specs.Command.{IsCut}
+use Rattle.line_run.specs.Life.{AllPassed}
+use Rattle.newsdesk_cli.specs.Command.{IsWritten, IsCut}
 
--- all of a line is its first bytes
-whole : (l : List ℕ) → l ≡ take (length l) l
-whole [] = refl
-whole (x ∷ l) = ap (λ (t : List ℕ). x ∷ t) (whole l)
+module _ {O : Type 0} (sink : SinkMeaning O) (old new : O) (bytes : List ℕ) where
+  pub written_by : (r : Result (Unit {0}) Failed) → (sink.tells old → sink.tells new) → (sink.tells old → OnOk r (sink.taken new ≡ sink.taken old ++ bytes)) → (sink.tells old → OnOk r (AllPassed sink new)) → Counts (sink.faults old) (sink.faults new) r
+      → OnOk r (IsWritten sink old new bytes)
+  written_by (Ok u) told ok passed count = record { wrote = record { told = told; bytes = ok }; passed = passed; calm = count.calm }
+  written_by (Err why) told ok passed count = tt
 
-module _ {O : Type 0} (takes : O → Type 0) (taken : O → List ℕ) (writes : O → ℕ) where
-  -- a fault behind all of the bytes
-  pub cut_behind : (old mid new : O) (bytes : List ℕ) → (takes old → taken mid ≡ taken old ++ bytes) → (takes old → takes mid) → writes mid ≡ writes old → (takes mid → taken new ≡ taken mid) → (takes mid → takes new)
-      → (r : Result (Unit {0}) Failed) → Counts (writes mid) (writes new) r → OnErr r (IsCut takes taken writes old new bytes)
-  cut_behind old mid new bytes wrote told calm same told' (Ok u) count = tt
-  cut_behind old mid new bytes wrote told calm same told' (Err e) count = record {
-    count = length bytes;
-    wrote = record { told = λ t. told' (told t); bytes = λ t. same (told t) ∙ wrote t ∙ ap (λ (l : List ℕ). taken old ++ l) (whole bytes) };
-    rose = subst (λ (n : ℕ). Rose n (writes new)) calm count.failed;
-  }
+  pub cut_by : (r : Result (Unit {0}) Failed) → (sink.tells old → sink.tells new) → OnErr r ((n : ℕ) × (n ≤ length bytes) × (sink.tells old → sink.taken new ≡ sink.taken old ++ take n bytes)) → Counts (sink.faults old) (sink.faults new) r
+      → OnErr r (IsCut sink old new bytes)
+  cut_by (Ok u) told some count = tt
+  cut_by (Err why) told some count = record { count = some.0; wrote = record { told = told; bytes = some.2 }; rose = count.failed }

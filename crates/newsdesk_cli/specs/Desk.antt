@@ -1,13 +1,12 @@
 -- What answers the lines of a batch: a room, with the clock that is read for each line that the room answers.
-use Rattle.std.specs.Prelude.{◌≡◌, ℕ, ◌+◌, Bool, true, false, List, Option}
+use Rattle.std.specs.Prelude.{◌≡◌, ℕ, ◌+◌, Bool, true, false}
 use Rattle.std.specs.Borrow.{GName}
-use Rattle.news_types.specs.declared.entry.Entry.{Entry}
 use Rattle.news_types.specs.Names.{Bytes}
 use Rattle.news_types.specs.History.{History}
 use Rattle.news_types.specs.Books.{Book}
-use Rattle.line_run.specs.Life.{Life}
+use Rattle.news_io.specs.Keeper.{KeeperMeaning}
 use Rattle.news_room.specs.Log.{sizes}
-use Rattle.news_room.specs.Stands.{Stands, found_since, in_doubt}
+use Rattle.news_room.specs.Stands.{Stands}
 use Rattle.newsdesk_cli.specs.declared.desk.LineDesk.{LineDesk}
 
 -- what stays the same from line to line: the store, whether its keeper tells the list, the bytes of the log before its first record, and which room and clock are used
@@ -22,9 +21,9 @@ abbrev pub book : Shelf → History → Book
 book s h = record { store = s.store; told = s.told; list = h }
 
 -- the desk's room stands for the list, and its keeper uses the bytes of the list's records
-pub record StandsAt {K C : Type 0} (used : K → ℕ) (tells : K → Type 0) (list : K → List Bytes) (doubts : K → Bytes → Type 0) (s : Shelf) (d : LineDesk K C) (h : History) : Type 0 where
-  pub room_stands : Stands used tells list doubts d.room.now (book s h)
-  pub uses : used d.room.now.keeper ≡ s.before + sizes h
+pub record StandsAt {K C : Type 0} (keeper : KeeperMeaning K) (s : Shelf) (d : LineDesk K C) (h : History) : Type 0 where
+  pub room_stands : Stands keeper d.room.now (book s h)
+  pub uses : keeper.used d.room.now.keeper ≡ s.before + sizes h
   pub same_room : d.room.ghost_name ≡ s.room
   pub same_clock : d.clock.ghost_name ≡ s.clock
 
@@ -32,13 +31,3 @@ pub record StandsAt {K C : Type 0} (used : K → ℕ) (tells : K → Type 0) (li
 abbrev pub moment_of : Bool → ℕ → ℕ
 moment_of true m = m
 moment_of false m = 0
-
-abbrev pub life : {K C : Type 0} → (K → ℕ) → (K → Type 0) → (K → List Bytes) → (K → Bytes → Type 0) → (K → ℕ) → (K → ℕ → Option (List Bytes) → Type 0) → (C → Type 0) → (C → ℕ → ℕ) → Shelf → Life Entry (LineDesk K C)
-life used tells list doubts moment left_since clock_tells ahead s = record {
-  stands = λ d h. StandsAt used tells list doubts s d h;
-  doubts = λ d e. (s.told ≡ true) × in_doubt doubts d.room.now e;
-  moment = λ d. moment_of s.told (moment d.room.now.keeper);
-  left_since = λ d t found. (s.told ≡ true) × found_since left_since d.room.now t found;
-  tells = λ d. clock_tells d.clock.now;
-  ahead = λ d. ahead d.clock.now;
-}

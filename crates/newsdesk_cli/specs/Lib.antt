@@ -2,6 +2,7 @@ pub mod Texts
 pub mod Lines
 pub mod Desk
 pub mod Leaving
+pub mod Life
 pub mod Batch
 pub mod Command
 pub mod Words

@@ -1,37 +1,36 @@
 -- What a line of a batch is answered at a list and a reading of the clock, and which entry it adds.
-use Rattle.std.specs.Prelude.{ℕ, ◌+◌, Bool, true, false, nat_lt, IsTrue, List, [], ◌∷◌, Some, None, Result, Ok, Err}
+use Rattle.std.specs.Prelude.{ℕ, ◌+◌, Bool, true, false, nat_lt, if◌then◌else◌, List, [], ◌∷◌, Some, None, Result, Ok, Err}
 use Rattle.news_types.specs.declared.entry.Entry.{Entry}
-use Rattle.news_types.specs.declared.command.Command.{Command}
+use Rattle.news_types.specs.declared.query.Query.{Query}
+use Rattle.news_types.specs.declared.query.Query.TheVariants as query
 use Rattle.news_types.specs.Names.{Bytes}
-use Rattle.news_types.specs.History.{History}
-use Rattle.news_types.specs.Outcome.{Answered, Done, Repeat, Denied, request}
+use Rattle.news_types.specs.History.{History, moment_at}
+use Rattle.news_types.specs.Calls.{ticked}
+use Rattle.news_types.specs.Outcome.{Answered, Done, Repeat, Denied, request, receipt}
 use Rattle.news_types.specs.Outcome as newsroom
-use Rattle.news_types.specs.Answers.{answer}
+use Rattle.news_types.specs.Answers.{query_answer}
 use Rattle.input_lines.specs.Lines.{Line}
 use Rattle.line_run.specs.Life.{Outcome, Meaning}
-use Rattle.desk_lines.specs.declared.lines.Asked.{Asked}
-use Rattle.desk_lines.specs.declared.lines.Asked.TheVariants as asked
+use Rattle.desk_lines.specs.declared.asked.Asked.{Asked}
+use Rattle.desk_lines.specs.declared.asked.Asked.TheVariants as asked
 use Rattle.desk_lines.specs.declared.property.LineProperty.{LineProperty}
 use Rattle.desk_lines.specs.declared.property.LineProperty.TheVariants as property
 use Rattle.desk_lines.specs.Lines.{line}
-use Rattle.desk_lines.specs.Answers.{reply_bytes, denial_bytes, bad_bytes, answer_bytes}
-use Rattle.entry_codec.specs.Fits.{FitsCommand}
-use Rattle.newsroom.specs.Built.{is_built}
-use Rattle.newsroom.specs.Asking.{IsBuiltQuery}
+use Rattle.desk_answers.specs.Answers.{reply_bytes, denial_bytes, bad_bytes, answer_bytes}
 use Rattle.news_room.specs.Log.{sizes}
 use Rattle.news_room.specs.Stands.{LIMIT}
-use Rattle.news_room.specs.Steps.{entries}
+use Rattle.news_room.specs.Steps.{entries, tick_entries}
 
 -- ---- lines
 
 -- the longest line, in bytes without its end, and the most bytes of an input that are answered
 abbrev pub LONGEST_LINE : ℕ
-LONGEST_LINE = 2097152
+LONGEST_LINE = 4194304
 
 abbrev pub LONGEST_INPUT : ℕ
 LONGEST_INPUT = 4294967296
 
--- what a request is answered
+-- what a request or a receipt is answered
 abbrev pub answered_bytes : Answered → Bytes
 answered_bytes (Done reply) = reply_bytes reply false
 answered_bytes (Repeat reply) = reply_bytes reply true
@@ -54,14 +53,27 @@ adding before h at text more = record { text = text; adds = more; passes = passe
 abbrev pub no_frames : Bytes → ℕ → Bytes
 no_frames s k = []
 
-abbrev pub of_request : ℕ → History → ℕ → newsroom.Outcome Answered → Outcome Entry
-of_request before h at o = adding before h at (answered_bytes o.answer) (entries o.more)
+-- a request or a receipt
+abbrev pub of_outcome : ℕ → History → ℕ → newsroom.Outcome Answered → Outcome Entry
+of_outcome before h at o = adding before h at (answered_bytes o.answer) (entries o.more)
+
+-- a question stands behind a tick: what waits until the reading is released first
+abbrev pub of_question : ℕ → History → ℕ → Query → Outcome Entry
+of_question before h at query = adding before h at (answer_bytes (query_answer no_frames (ticked h (moment_at h at)) query)) (tick_entries h (moment_at h at))
+
+-- the questions that a line may ask
+abbrev pub has_answer : Query → Bool
+has_answer (query.Feed s after) = true
+has_answer (query.Item i) = true
+has_answer query.Queue = true
+has_answer query.Check = true
+has_answer _ = false
 
 -- what a line asks for
 abbrev pub of_asked : ℕ → Meaning Entry Asked
-of_asked before h (asked.Request caller number command) at = of_request before h at (request h caller number command at)
-of_asked before h (asked.Query query) at = adding before h at (answer_bytes (answer no_frames h query)) []
-of_asked before h (asked.Receipt subscriber n) at = bad property.Line
+of_asked before h (asked.Request caller number command) at = of_outcome before h at (request h caller number command at)
+of_asked before h (asked.Query query) at = if has_answer query then of_question before h at query else bad property.Ask
+of_asked before h (asked.Receipt subscriber n) at = of_outcome before h at (receipt h subscriber n at)
 
 -- a line as it is read
 abbrev pub of_read : ℕ → Meaning Entry (Result Asked LineProperty)
@@ -72,16 +84,3 @@ of_read before h (Err p) at = bad p
 abbrev pub of_line : ℕ → Meaning Entry Line
 of_line before h None at = bad property.Line
 of_line before h (Some bytes) at = of_read before h (line bytes) at
-
--- ---- what the room can do of it so far
-
--- a command that is within the limits and can be done
-pub record IsFit (c : Command) : Type 0 where
-  pub fits : FitsCommand c
-  pub built : IsTrue (is_built c)
-
--- what is asked can be answered
-abbrev pub CanDo : Asked → Type 0
-CanDo (asked.Request caller number command) = IsFit command
-CanDo (asked.Query query) = IsBuiltQuery query
-CanDo (asked.Receipt subscriber n) = Unit {0}

@@ -10,7 +10,7 @@ use Rattle.news_journal.specs.declared.log.Journal.{Journal}
 use Rattle.news_journal.specs.declared.log.OpenFault.{OpenFault}
 use Rattle.news_journal.specs.declared.log.OpenFault.TheVariants.{DiskFault}
 use Rattle.news_journal.specs.declared.opening.Opened.{Opened}
-use Rattle.news_journal.specs.Log.{header_bytes}
+use Rattle.news_journal.specs.Log.{IsHead}
 use Rattle.news_journal.specs.Damage.{header_damage, damage}
 use Rattle.news_journal.specs.Opened.{Still, IsLog, payloads, places}
 use Rattle.news_journal.specs.Stands.{disk_of}
@@ -22,6 +22,8 @@ use Rattle.news_room.specs.declared.room.Room.{Room}
 use Rattle.newsdesk_cli.specs.Batch.{Holds}
 use Rattle.newsdesk_cli.specs.declared.trouble.Trouble.{Trouble}
 use Rattle.newsdesk_cli.specs.declared.trouble.Trouble.TheVariants as trouble
+use Rattle.news_io.specs.Disk.{DiskMeaning}
+use Rattle.news_journal.specs.Journal.{journal_of}
 
 -- the bytes are a log of this store, whose records are those of the list
 pub record Opens (bytes : List ℕ) (store : Bytes) (h : History) : Type 0 where
@@ -35,7 +37,7 @@ IsDamagedLog bytes at found = (damage bytes ≡ Some (at, found)) ⊎ ((store : 
 
 -- the header is that of a receiver's log
 abbrev pub IsReceivers : List ℕ → Type 0
-IsReceivers bytes = (name : Bytes) × (header_damage (take 64 bytes) ≡ None) × (take 64 bytes ≡ header_bytes (header.Receiver name))
+IsReceivers bytes = (name : Bytes) × (header_damage (take 64 bytes) ≡ None) × IsHead (header.Receiver name) (take 64 bytes)
 
 -- no newsroom's log: the file is empty, or it is a receiver's
 abbrev pub IsOther : List ℕ → Type 0
@@ -71,23 +73,23 @@ IsNoRoom (header.Room store) records trouble.Memory = Unit {0}
 IsNoRoom (header.Room store) records _ = ⊥
 
 -- the room of a log that was opened
-pub record IsRoomOf {D : Type 0} (opened : Opened D) (used : Journal D → ℕ) (j_tells : Journal D → Type 0) (list : Journal D → List Bytes) (doubts : Journal D → Bytes → Type 0) (r : Room (Journal D)) : Type 0 where
+pub record IsRoomOf {D : Type 0} (disk : DiskMeaning D) (opened : Opened D) (r : Room (Journal D)) : Type 0 where
   pub store : Bytes
   pub header_is : opened.header ≡ header.Room store
-  pub room : room.IsOpened used j_tells list doubts opened.journal store opened.records r
+  pub room : room.IsOpened (journal_of disk) opened.journal store opened.records r
 
-module _ {D : Type 0} (tells : D → Type 0) (seen : D → List ℕ) (may_leave : D → List ℕ → Type 0) (moment : D → ℕ) (left_since : D → ℕ → List ℕ → Type 0) (faults : D → ℕ) where
+module _ {D : Type 0} (disk : DiskMeaning D) where
   -- the log does not serve, and is as it was
   pub record IsRefused (old new : D) (t : Trouble) : Type 0 where
-    pub cause : tells old → Cause (seen old) t
-    pub count : TroubleCounts (faults old) (faults new) t
-    pub still : tells old → Still tells seen may_leave moment left_since old new
+    pub cause : disk.tells old → Cause (disk.seen old) t
+    pub count : TroubleCounts (disk.faults old) (disk.faults new) t
+    pub still : disk.tells old → Still disk old new
 
   -- the room of a log, which is as it was
-  pub record IsOpenRoom (used : Journal D → ℕ) (j_tells : Journal D → Type 0) (list : Journal D → List Bytes) (doubts : Journal D → Bytes → Type 0) (log : D) (r : Room (Journal D)) : Type 0 where
+  pub record IsOpenRoom (log : D) (r : Room (Journal D)) : Type 0 where
     pub store : Bytes
     pub history : History
-    pub bytes : tells log → Opens (seen log) store history
-    pub holds : (told : Bool) → (told ≡ true → tells log) → Holds used j_tells list doubts r (record { store = store; told = told; list = history }) 65
-    pub calm : faults (disk_of r.keeper) ≡ faults log
-    pub still : tells log → Still tells seen may_leave moment left_since log (disk_of r.keeper)
+    pub bytes : disk.tells log → Opens (disk.seen log) store history
+    pub holds : (told : Bool) → (told ≡ true → disk.tells log) → Holds (journal_of disk) r (record { store = store; told = told; list = history }) 65
+    pub calm : disk.faults (disk_of r.keeper) ≡ disk.faults log
+    pub still : disk.tells log → Still disk log (disk_of r.keeper)

@@ -5,7 +5,8 @@ use Rattle.news_types.specs.Names.{Bytes}
 use Rattle.line_run.specs.declared.answering.Stopped.{Stopped}
 use Rattle.line_run.specs.declared.answering.Stopped.TheVariants as stopped
 use Rattle.news_room.specs.declared.answers.Answered.{Answered}
-use Rattle.desk_lines.specs.Answers.{reply_bytes, denial_bytes}
+use Rattle.news_room.specs.declared.answers.Kept.{Kept}
+use Rattle.desk_answers.specs.Answers.{reply_bytes, denial_bytes}
 
 -- the text, or want of memory for it
 abbrev pub IsText : Bytes → Result (Vec ℕ Global) Stopped → Type 0
@@ -20,3 +21,10 @@ IsAnswerText (Answered.Denied denial) text = IsText (denial_bytes denial) text
 IsAnswerText Answered.Fault text = text ≡ Err stopped.Fault
 IsAnswerText (Answered.Full size count) text = text ≡ Err stopped.Full
 IsAnswerText Answered.Memory text = text ≡ Err stopped.Memory
+
+-- what a room answered to a receipt, as a text, or why there is none
+abbrev pub IsReceiptText : Kept → Result (Vec ℕ Global) Stopped → Type 0
+IsReceiptText (Kept.Done reply) text = IsText (reply_bytes reply false) text
+IsReceiptText (Kept.Denied denial) text = IsText (denial_bytes denial) text
+IsReceiptText Kept.Fault text = text ≡ Err stopped.Fault
+IsReceiptText (Kept.Full size count) text = text ≡ Err stopped.Full

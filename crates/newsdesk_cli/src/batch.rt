@@ -7,13 +7,13 @@ ghost use Rattle.newsdesk_cli.specs.Batch.{Holds, Answered};
 ghost use Rattle.newsdesk_cli.specs.Lines.{LONGEST_INPUT};
 
 use crate::desk::LineDesk;
-use line_run::run_batch;
+use line_run::run_lines;
 use news_io::{Clock, Keeper, Sink, Source};
 use news_room::Room;
 use std::alloc::Global;
 
 /// The longest line that is read, in bytes without its end.
-const LONGEST_LINE: u32 = 2097152;
+const LONGEST_LINE: u32 = 4194304;
 
 /// The most bytes of an input that are answered.
 const LONGEST_INPUT: u64 = 4294967296;
@@ -26,12 +26,12 @@ pub(crate) fn answer_input<S: Source, O: Sink, K: Keeper, C: Clock>(
     room: &mut Room<K>,
     clock: &mut C,
 ) -> u8
-    requires holds { (b : Book) × ((before : ℕ) × Holds K.used K.tells K.list K.doubts room.old b before) }
-    ensures answered { (b : Book) (before : ℕ) → Holds K.used K.tells K.list K.doubts room.old b before
-        → Answered K.faults K.used K.tells K.list K.doubts K.moment K.left_since C.tells C.ahead S.tells S.ahead S.faults O.tells O.taken O.faults room.old room.new clock.old clock.new input.old input.new output.old output.new b before result }
-    ensures complete { S.tells input.old → length (S.ahead input.old) ≤ LONGEST_INPUT → (Rose (S.faults input.old) (S.faults input.new) → ⊥) → (Rose (O.faults output.old) (O.faults output.new) → ⊥)
-        → (Rose (K.faults room.old.keeper) (K.faults room.new.keeper) → ⊥) → IsComplete result }
+    requires holds { (b : Book) × ((before : ℕ) × Holds K.keeper room.old b before) }
+    ensures answered { (b : Book) (before : ℕ) → Holds K.keeper room.old b before
+        → Answered K.keeper C.clock S.source O.sink room.old room.new clock.old clock.new input.old input.new output.old output.new b before result }
+    ensures complete { S.source.tells input.old → length (S.source.ahead input.old) ≤ LONGEST_INPUT → (Rose (S.source.faults input.old) (S.source.faults input.new) → ⊥) → (Rose (O.sink.faults output.old) (O.sink.faults output.new) → ⊥)
+        → (Rose (K.keeper.faults room.old.keeper) (K.keeper.faults room.new.keeper) → ⊥) → IsComplete result }
 {
     let mut desk = LineDesk { alloc, room, clock };
-    run_batch(alloc, input, output, &mut desk, LONGEST_LINE, LONGEST_INPUT)
+    run_lines(alloc, input, output, &mut desk, LONGEST_LINE, LONGEST_INPUT)
 }

@@ -31,8 +31,7 @@ pub fn run<S: Source, O: Sink, D: Disk, C: Clock, L: Link>(
     clock: &mut C,
     links: &mut Vec<L>,
 ) -> (u8, D, D)
-    ensures does { Does D.tells D.seen D.may_leave D.moment D.left_since D.faults ⟦<Journal<D> as Keeper>⟧.faults ⟦<Journal<D> as Keeper>⟧.used ⟦<Journal<D> as Keeper>⟧.tells ⟦<Journal<D> as Keeper>⟧.list ⟦<Journal<D> as Keeper>⟧.doubts ⟦<Journal<D> as Keeper>⟧.moment ⟦<Journal<D> as Keeper>⟧.left_since
-        C.tells C.ahead S.tells S.ahead S.faults O.tells O.taken O.faults log result.1 input.old input.new output.old output.new clock.old clock.new result.0 (job_of words.now) }
+    ensures does { Does D.disk C.clock S.source O.sink log result.1 input.old input.new output.old output.new clock.old clock.new result.0 (job_of words.now) }
     ensures side { result.2 ≡ side }
     ensures links { links.new ≡ links.old }
 {
@@ -54,8 +53,7 @@ fn do_job<S: Source, O: Sink, D: Disk, C: Clock>(
     log: D,
     clock: &mut C,
 ) -> (u8, D)
-    ensures { Does D.tells D.seen D.may_leave D.moment D.left_since D.faults ⟦<Journal<D> as Keeper>⟧.faults ⟦<Journal<D> as Keeper>⟧.used ⟦<Journal<D> as Keeper>⟧.tells ⟦<Journal<D> as Keeper>⟧.list ⟦<Journal<D> as Keeper>⟧.doubts ⟦<Journal<D> as Keeper>⟧.moment ⟦<Journal<D> as Keeper>⟧.left_since
-        C.tells C.ahead S.tells S.ahead S.faults O.tells O.taken O.faults log result.1 input.old input.new output.old output.new clock.old clock.new result.0 (Some job) }
+    ensures { Does D.disk C.clock S.source O.sink log result.1 input.old input.new output.old output.new clock.old clock.new result.0 (Some job) }
 {
     match job {
         Job::Init(store) => init(output, log, store),
@@ -66,7 +64,7 @@ fn do_job<S: Source, O: Sink, D: Disk, C: Clock>(
 
 /// Says why there is nothing to do.
 fn stop<O: Sink>(output: &mut O, trouble: Trouble) -> u8
-    ensures { IsStopped O.tells O.taken O.faults trouble output.old output.new result }
+    ensures { IsStopped O.sink trouble output.old output.new result }
 {
     tell(output, trouble.line().as_slice());
     trouble.status()
@@ -75,7 +73,7 @@ fn stop<O: Sink>(output: &mut O, trouble: Trouble) -> u8
 /// Makes an empty file the log of a store.
 #[tactic(none)]
 fn init<O: Sink, D: Disk>(output: &mut O, mut log: D, store: Uuid) -> (u8, D)
-    ensures { IsInit D.tells D.seen D.may_leave D.moment D.left_since D.faults O.tells O.taken O.faults store log result.1 output.old output.new result.0 }
+    ensures { IsInit D.disk O.sink store log result.1 output.old output.new result.0 }
 {
     match length_of(&mut log) {
         Ok(0) => {}
@@ -97,8 +95,7 @@ fn batch<S: Source, O: Sink, D: Disk, C: Clock>(
     log: D,
     clock: &mut C,
 ) -> (u8, D)
-    ensures { IsBatch D.tells D.seen D.may_leave D.moment D.left_since D.faults ⟦<Journal<D> as Keeper>⟧.faults ⟦<Journal<D> as Keeper>⟧.used ⟦<Journal<D> as Keeper>⟧.tells ⟦<Journal<D> as Keeper>⟧.list ⟦<Journal<D> as Keeper>⟧.doubts ⟦<Journal<D> as Keeper>⟧.moment ⟦<Journal<D> as Keeper>⟧.left_since
-        C.tells C.ahead S.tells S.ahead S.faults O.tells O.taken O.faults log result.1 input.old input.new output.old output.new clock.old clock.new result.0 }
+    ensures { IsBatch D.disk C.clock S.source O.sink log result.1 input.old input.new output.old output.new clock.old clock.new result.0 }
 {
     match open_room(alloc, log) {
         Ok(mut room) => {
@@ -112,7 +109,7 @@ fn batch<S: Source, O: Sink, D: Disk, C: Clock>(
 /// Opens the log, and says what it holds.
 #[tactic(none)]
 fn check<O: Sink, D: Disk>(alloc: Global, output: &mut O, log: D) -> (u8, D)
-    ensures { IsCheck D.tells D.seen D.may_leave D.moment D.left_since D.faults ⟦<Journal<D> as Keeper>⟧.used ⟦<Journal<D> as Keeper>⟧.tells ⟦<Journal<D> as Keeper>⟧.list ⟦<Journal<D> as Keeper>⟧.doubts O.tells O.taken O.faults log result.1 output.old output.new result.0 }
+    ensures { IsCheck D.disk O.sink log result.1 output.old output.new result.0 }
 {
     match open_room(alloc, log) {
         Ok(room) => {

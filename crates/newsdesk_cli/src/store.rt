@@ -17,8 +17,8 @@ pub(crate) fn open_room<D: Disk>(
     alloc: Global,
     mut log: D,
 ) -> Result<Room<Journal<D>>, (D, Trouble)>
-    ensures opened { IfOk result (IsOpenRoom D.tells D.seen D.may_leave D.moment D.left_since D.faults ⟦<Journal<D> as Keeper>⟧.used ⟦<Journal<D> as Keeper>⟧.tells ⟦<Journal<D> as Keeper>⟧.list ⟦<Journal<D> as Keeper>⟧.doubts log) }
-    ensures refused { IfErr result (λ e. IsRefused D.tells D.seen D.may_leave D.moment D.left_since D.faults log e.0 e.1) }
+    ensures opened { IfOk result (IsOpenRoom D.disk log) }
+    ensures refused { IfErr result (λ e. IsRefused D.disk log e.0 e.1) }
 {
     match kind_trouble(&mut log) {
         Some(trouble) => Err((log, trouble)),
@@ -28,19 +28,19 @@ pub(crate) fn open_room<D: Disk>(
 
 /// How many bytes a log has.
 pub(crate) fn length_of<D: Disk>(log: &mut D) -> Result<u64, Failed>
-    ensures size { D.tells log.old → IfOk result (λ n. n ≡ length (D.seen log.old)) }
-    ensures still { Still D.tells D.seen D.may_leave D.moment D.left_since log.old log.new }
-    ensures count { Counts (D.faults log.old) (D.faults log.new) result }
+    ensures size { D.disk.tells log.old → IfOk result (λ n. n ≡ length (D.disk.seen log.old)) }
+    ensures still { Still D.disk log.old log.new }
+    ensures count { Counts (D.disk.faults log.old) (D.disk.faults log.new) result }
 {
     log.size()
 }
 
 /// Why a log is not that of a newsroom, by its length alone.
 fn length_trouble<D: Disk>(log: &mut D) -> Option<Trouble>
-    ensures some { IfSome result (IsRefused D.tells D.seen D.may_leave D.moment D.left_since D.faults log.old log.new) }
-    ensures none { result ≡ None → D.tells log.old → D.seen log.old ≡ [] → ⊥ }
-    ensures calm { result ≡ None → D.faults log.new ≡ D.faults log.old }
-    ensures still { Still D.tells D.seen D.may_leave D.moment D.left_since log.old log.new }
+    ensures some { IfSome result (IsRefused D.disk log.old log.new) }
+    ensures none { result ≡ None → D.disk.tells log.old → D.disk.seen log.old ≡ [] → ⊥ }
+    ensures calm { result ≡ None → D.disk.faults log.new ≡ D.disk.faults log.old }
+    ensures still { Still D.disk log.old log.new }
 {
     match length_of(log) {
         Ok(0) => Some(Trouble::WrongStore),
@@ -51,10 +51,10 @@ fn length_trouble<D: Disk>(log: &mut D) -> Option<Trouble>
 
 /// Why a log is not that of a newsroom, by its header alone.
 fn header_trouble<D: Disk>(log: &mut D) -> Option<Trouble>
-    ensures some { IfSome result (IsRefused D.tells D.seen D.may_leave D.moment D.left_since D.faults log.old log.new) }
-    ensures none { result ≡ None → D.tells log.old → IsReceivers (D.seen log.old) → ⊥ }
-    ensures calm { result ≡ None → D.faults log.new ≡ D.faults log.old }
-    ensures still { Still D.tells D.seen D.may_leave D.moment D.left_since log.old log.new }
+    ensures some { IfSome result (IsRefused D.disk log.old log.new) }
+    ensures none { result ≡ None → D.disk.tells log.old → IsReceivers (D.disk.seen log.old) → ⊥ }
+    ensures calm { result ≡ None → D.disk.faults log.new ≡ D.disk.faults log.old }
+    ensures still { Still D.disk log.old log.new }
 {
     match Header::read_from(log) {
         Ok(Some(Header::Receiver { .. })) => Some(Trouble::WrongStore),
@@ -66,10 +66,10 @@ fn header_trouble<D: Disk>(log: &mut D) -> Option<Trouble>
 
 /// Why a log is not that of a newsroom, by its length and its header alone.
 fn kind_trouble<D: Disk>(log: &mut D) -> Option<Trouble>
-    ensures some { IfSome result (IsRefused D.tells D.seen D.may_leave D.moment D.left_since D.faults log.old log.new) }
-    ensures none { result ≡ None → D.tells log.old → IsOther (D.seen log.old) → ⊥ }
-    ensures calm { result ≡ None → D.faults log.new ≡ D.faults log.old }
-    ensures still { Still D.tells D.seen D.may_leave D.moment D.left_since log.old log.new }
+    ensures some { IfSome result (IsRefused D.disk log.old log.new) }
+    ensures none { result ≡ None → D.disk.tells log.old → IsOther (D.disk.seen log.old) → ⊥ }
+    ensures calm { result ≡ None → D.disk.faults log.new ≡ D.disk.faults log.old }
+    ensures still { Still D.disk log.old log.new }
 {
     match length_trouble(log) {
         Some(trouble) => Some(trouble),
@@ -79,10 +79,10 @@ fn kind_trouble<D: Disk>(log: &mut D) -> Option<Trouble>
 
 /// The room of a log that may be a newsroom's, or why there is none: only then is damage told as it stands.
 fn open_log<D: Disk>(alloc: Global, log: D) -> Result<Room<Journal<D>>, (D, Trouble)>
-    ensures opened { IfOk result (IsOpenRoom D.tells D.seen D.may_leave D.moment D.left_since D.faults ⟦<Journal<D> as Keeper>⟧.used ⟦<Journal<D> as Keeper>⟧.tells ⟦<Journal<D> as Keeper>⟧.list ⟦<Journal<D> as Keeper>⟧.doubts log) }
-    ensures cause { D.tells log → (IsOther (D.seen log) → ⊥) → IfErr result (λ e. Cause (D.seen log) e.1) }
-    ensures count { IfErr result (λ e. TroubleCounts (D.faults log) (D.faults e.0) e.1) }
-    ensures still { D.tells log → IfErr result (λ e. Still D.tells D.seen D.may_leave D.moment D.left_since log e.0) }
+    ensures opened { IfOk result (IsOpenRoom D.disk log) }
+    ensures cause { D.disk.tells log → (IsOther (D.disk.seen log) → ⊥) → IfErr result (λ e. Cause (D.disk.seen log) e.1) }
+    ensures count { IfErr result (λ e. TroubleCounts (D.disk.faults log) (D.disk.faults e.0) e.1) }
+    ensures still { D.disk.tells log → IfErr result (λ e. Still D.disk log e.0) }
 {
     match Journal::open(alloc, log) {
         Ok(opened) => room_of(alloc, opened),
@@ -103,7 +103,7 @@ fn open_trouble(fault: OpenFault) -> Trouble
 /// The room of a log's records.
 fn room_of<D: Disk>(alloc: Global, opened: Opened<D>) -> Result<Room<Journal<D>>, (D, Trouble)>
     requires few { AreFew opened.records }
-    ensures room { IfOk result (IsRoomOf opened ⟦<Journal<D> as Keeper>⟧.used ⟦<Journal<D> as Keeper>⟧.tells ⟦<Journal<D> as Keeper>⟧.list ⟦<Journal<D> as Keeper>⟧.doubts) }
+    ensures room { IfOk result (IsRoomOf D.disk opened) }
     ensures none { IfErr result (λ e. (e.0 ≡ disk_of opened.journal) × IsNoRoom opened.header opened.records e.1) }
 {
     let Opened {

@@ -9,7 +9,7 @@ use std::test::Fail;
 
 /// The header of the store 6ba7b810-9dad-11d1-80b4-00c04fd430c8.
 const HEADER: &[u8] =
-    b"NEWSDESK\x01\x01\0\0\0\0\0\0\x6b\xa7\xb8\x10\x9d\xad\x11\xd1\x80\xb4\0\xc0\x4f\xd4\x30\xc8\0\0\0\0\0\0\0\0\0\0\0\0\0\0\0\0\0\0\0\0\0\0\0\0\0\0\0\0\0\0\0\0";
+    b"NEWSDESK\x02\x01\0\0\0\0\0\0\x6b\xa7\xb8\x10\x9d\xad\x11\xd1\x80\xb4\0\xc0\x4f\xd4\x30\xc8\0\0\0\0\0\0\0\0\0\0\0\0\0\0\0\0\0\0\0\0\0\0\0\0\0\0\0\0\0\0\0\0";
 
 /// The record of `SUBSCRIBER` at 1000: its gate, its length and 37 bytes.
 const ADDED: &[u8] =
@@ -347,9 +347,9 @@ const CHANGED: [(usize, u8, &str); 9] = [
     (68, 38, r#"{"at":65,"found":0,"status":7}"#),
     (68, 36, r#"{"at":105,"found":null,"status":7}"#),
     // the entry's act, caller, command and the end of its command
-    (77, 7, r#"{"at":77,"found":7,"status":7}"#),
+    (77, 8, r#"{"at":77,"found":8,"status":7}"#),
     (78, 0, r#"{"at":78,"found":0,"status":7}"#),
-    (92, 33, r#"{"at":92,"found":33,"status":7}"#),
+    (92, 39, r#"{"at":92,"found":39,"status":7}"#),
     (92, 3, r#"{"at":99,"found":0,"status":7}"#),
     // an entry that may not come first
     (91, 2, r#"{"at":64,"found":1,"status":7}"#),

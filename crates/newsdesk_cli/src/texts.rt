@@ -1,12 +1,13 @@
 //! The texts of answers.
 ghost use Rattle.std.specs.Prelude.{◌≡◌, IfOk};
 ghost use Rattle.news_types.specs.Names.{Bytes};
-ghost use Rattle.desk_lines.specs.Answers.{bad_bytes, answer_bytes, HasLine};
-ghost use Rattle.newsdesk_cli.specs.Texts.{IsText, IsAnswerText};
+ghost use Rattle.desk_answers.specs.Answers.{bad_bytes, answer_bytes, HasLine};
+ghost use Rattle.newsdesk_cli.specs.Texts.{IsText, IsAnswerText, IsReceiptText};
 
-use desk_lines::{LineProperty, answer_text, bad_text, denial_text, reply_text};
+use desk_answers::{answer_text, bad_text, denial_text, reply_text};
+use desk_lines::LineProperty;
 use line_run::Stopped;
-use news_room::Answered;
+use news_room::{Answered, Kept};
 use news_types::{Answer, Bytes, Memory};
 use std::alloc::Global;
 
@@ -46,5 +47,17 @@ pub(crate) fn request_answered(alloc: Global, answered: &Answered) -> Result<Vec
         Answered::Fault => Err(Stopped::Fault),
         Answered::Full { .. } => Err(Stopped::Full),
         Answered::Memory => Err(Stopped::Memory),
+    }
+}
+
+/// What a receipt is answered.
+pub(crate) fn receipt_answered(alloc: Global, kept: &Kept) -> Result<Vec<u8>, Stopped>
+    ensures { IsReceiptText kept.now result }
+{
+    match kept {
+        Kept::Done(reply) => text_of(reply_text(alloc, reply, false)),
+        Kept::Denied(denial) => text_of(denial_text(alloc, denial)),
+        Kept::Fault => Err(Stopped::Fault),
+        Kept::Full { .. } => Err(Stopped::Full),
     }
 }

@@ -1,62 +1,70 @@
--- A newsroom whose tables say the same stands for the same list.
-use Rattle.std.proofs.Common.{◌≡◌, ◌<◌, ℕ, true, false, List, [], ◌∷◌, ◌++◌, length, length-append, append_assoc, get_or, refl, sym, ap, ◌∙◌, subst, arith}
-use Rattle.std.specs.Prelude.{Result, Ok, Err, IfOk}
-use Rattle.std.specs.HashMap.{get}
+-- The newsroom behind an entry, and with memory taken.
+use Rattle.std.proofs.Common.{◌≡◌, ℕ, ◌+◌, Bool, cond, Option, Some, ◌∷◌, length, refl, ap, ◌∙◌, subst}
 use Rattle.std.specs.Option.{option_map}
-use Rattle.news_types.specs.Names.{Bytes, same, is_in}
-use Rattle.news_types.specs.Publications.{Pub}
-use Rattle.news_types.specs.History.{History}
-use Rattle.publish_queue.specs.Keeps.{Keeps}
-use Rattle.publish_queue.specs.Order.{Ascends, Differ}
-use Rattle.publish_queue.proofs.ByName.{apart}
-use Rattle.news_types.proofs.Members.{same_is}
+use Rattle.std.specs.HashMap.{HashMap, get}
+use Rattle.news_types.specs.declared.entry.Act.TheVariants.{Request, Ingest}
+use Rattle.news_types.specs.declared.command.Command.{Command}
+use Rattle.news_types.specs.Names.{Bytes, same}
+use Rattle.news_types.specs.History.{History, Asked, last, last_stop, is_stop_command}
+use Rattle.news_types.specs.declared.entry.Reply.{Reply}
+use Rattle.news_types.specs.Outcome.{last_reply, reply_to, entry_of}
+use Rattle.rule_tables.specs.Keeps.{KeepsRules}
+use Rattle.story_tables.specs.Keeps.{KeepsStories}
 use Rattle.newsroom.specs.declared.newsroom.Newsroom.{Newsroom}
-use Rattle.newsroom.specs.Callers.{asked_of, reply_of}
+use Rattle.newsroom.specs.declared.callers.Last.{Last}
+use Rattle.newsroom.specs.Callers.{asked_of, reply_of, Remembers}
 use Rattle.newsroom.specs.Stands.{StandsFor}
+use Rattle.newsroom.specs.Changes.{IsForAct, IsForRequest, IsForIngest}
+use Rattle.newsroom.specs.declared.change.RequestChange.{RequestChange}
+use Rattle.newsroom.specs.declared.change.IngestChange.{IngestChange}
+use Rattle.newsroom.specs.declared.change.Change.TheVariants as change
+use Rattle.news_types.specs.declared.entry.Act.{Act}
+use Rattle.news_types.specs.declared.story.Incoming.{Incoming}
 
-pub stands_kept : (n r : Newsroom) (h : History) → StandsFor n h → r.entries ≡ n.entries → r.moment ≡ n.moment → ((name : Bytes) → get same r.callers name ≡ get same n.callers name)
-    → r.subscribers ≡ n.subscribers
-    → ((names : List Bytes) (ps : List Pub) (m : ℕ) (acked tries tried : Bytes → ℕ) → Keeps n.queue names ps m acked tries tried → Keeps r.queue names ps m acked tries tried)
-    → r.items.items ≡ n.items.items → r.publications.items ≡ n.publications.items → StandsFor r h
-stands_kept n r h stands entries at callers subscribed queue items publications = record {
-  legal = stands.legal;
-  built = stands.built;
-  entries = entries ∙ stands.entries;
-  at = at ∙ stands.at;
-  callers = record {
-    asked = λ name. ap (option_map asked_of) (callers name) ∙ stands.callers.asked name;
-    replied = λ name. ap reply_of (callers name) ∙ stands.callers.replied name;
-  };
-  subscribed = subscribed ∙ stands.subscribed;
-  queue = queue _ _ _ _ _ _ stands.queue;
-  items = rw items stands.items;
-  publications = publications ∙ stands.publications;
+-- a table of callers in which each has what it had
+pub callers_kept : {S : Type 0} (old new : HashMap Bytes Last S) (asked : Bytes → Option Asked) (replied : Bytes → Reply) → ((name : Bytes) → get same new name ≡ get same old name) → Remembers old asked replied → Remembers new asked replied
+callers_kept old new asked replied alike holds = record {
+  asked = λ name. ap (option_map asked_of) (alike name) ∙ holds.asked name;
+  replied = λ name. ap reply_of (alike name) ∙ holds.replied name;
 }
 
-got_behind : (d : Bytes) (before ss : List Bytes) (t : Bytes) → get_or (before ++ t ∷ ss) (length before) d ≡ t
-got_behind d [] ss t = refl
-got_behind d (b ∷ before) ss t = got_behind d before ss t
+-- the same with other tables
+pub stands_with : (n r : Newsroom) (h : History) → StandsFor n h → r.entries ≡ n.entries → r.moment ≡ n.moment → r.last_stop ≡ n.last_stop → Remembers r.callers (last h) (last_reply h) → KeepsRules r.rules h → KeepsStories r.stories h → StandsFor r h
+stands_with n r h stands entries at stop callers rules stories = record {
+  legal = stands.legal;
+  entries = entries ∙ stands.entries;
+  at = at ∙ stands.at;
+  stop = stop ∙ stands.stop;
+  callers = callers;
+  rules = rules;
+  stories = stories;
+}
 
-got_at : (s : Bytes) (before ss : List Bytes) (t : Bytes) → get_or (s ∷ before ++ t ∷ ss) (length (s ∷ before)) s ≡ t
-got_at s before ss t = got_behind s before ss t
+-- what is remembered of the caller
+pub remembered : {S : Type 0} (table : HashMap Bytes Last S) (h : History) (m : ℕ) (caller name : Bytes) (number : ℕ) (command : Command) (l : Last) → name ≡ caller
+    → l ≡ record { number = number; command = command; reply = reply_to h m (Request caller number command) }
+    → Remembers table (λ other. cond (same name other) (Some (asked_of l)) (last h other)) (λ other. cond (same name other) l.reply (last_reply h other))
+    → Remembers table (last (entry_of m (Request caller number command) ∷ h)) (last_reply (entry_of m (Request caller number command) ∷ h))
+remembered table h m caller name number command l who is holds =
+    subst (λ (x : Last). Remembers table (λ other. cond (same caller other) (Some (asked_of x)) (last h other)) (λ other. cond (same caller other) x.reply (last_reply h other))) is
+    (subst (λ (n : Bytes). Remembers table (λ other. cond (same n other) (Some (asked_of l)) (last h other)) (λ other. cond (same n other) l.reply (last_reply h other))) who holds)
 
--- names in byte order differ
-unlike : (a b : Bytes) → (a ≡ b → ⊥) → same a b ≡ false
-unlike a b differ = elim (same a b) as (λ v. same a b ≡ v → v ≡ false) [ true ↦ λ alike. absurd (differ (same_is a b alike)) | false ↦ λ none. refl ] refl
+-- the last stop behind an entry
+pub stopped : (h : History) (command : Command) (b : Bool) (place before : ℕ) → b ≡ is_stop_command command → place ≡ length h + 1 → before ≡ last_stop h → cond b place before ≡ cond (is_stop_command command) (length h + 1) (last_stop h)
+stopped h command b place before one two three = λ i. cond (one i) (two i) (three i)
 
--- the first of names in order is none of those behind it
-first_behind : (s : Bytes) (before ss : List Bytes) → Ascends (s ∷ before ++ ss) → is_in s ss ≡ false
-first_behind s before [] up = refl
-first_behind s before (t ∷ ss) up =
-    let far : length (s ∷ before) < length (s ∷ before ++ t ∷ ss) = omega (arith, length-append before (t ∷ ss)) in
-    let other : same s t ≡ false = unlike s t (λ e. apart (s ∷ before ++ t ∷ ss) 0 (length (s ∷ before)) s up (omega arith) far (e ∙ sym (got_at s before ss t))) in
-    rw other (first_behind s (before ++ t ∷ []) ss (subst (λ (l : List Bytes). Ascends (s ∷ l)) (sym (append_assoc before (t ∷ []) ss)) up))
+abbrev last_of : ℕ → Command → Reply → Last
+last_of number command reply = record { number = number; command = command; reply = reply }
 
-pub ascending_differ : (ss : List Bytes) → Ascends ss → Differ ss
-ascending_differ [] up = tt
-ascending_differ (s ∷ ss) up = (first_behind s [] ss up, ascending_differ ss up.1)
+pub last_is : (number : ℕ) (copy command : Command) (given reply : Reply) → copy ≡ command → given ≡ reply → last_of number copy given ≡ last_of number command reply
+last_is number copy command given reply one two = λ i. last_of number (one i) (two i)
 
--- what follows of a value, if there is one
-pub if_both : {A E : Type 0} (r : Result A E) (P Q R : A → Type 0) → IfOk r P → IfOk r Q → ((a : A) → P a → Q a → R a) → IfOk r R
-if_both (Ok a) P Q R p q f = f a p q
-if_both (Err e) P Q R p q f = tt
+-- the request or the ingest that a change is for
+pub request_by : (c : RequestChange) (m : ℕ) (act : Act) (h : History) → IsForAct (change.Request c) m act h
+    → (caller : Bytes) × (number : ℕ) × (command : Command) × (act ≡ Request caller number command) × IsForRequest c m caller number command h
+request_by c m (Request caller number command) h is = (caller, number, command, refl, is)
+request_by c m _ h is = absurd is
+
+pub ingest_by : (c : IngestChange) (m : ℕ) (act : Act) (h : History) → IsForAct (change.Ingest c) m act h → (name : Bytes) × (come : Incoming) × (act ≡ Ingest name come) × IsForIngest c m name come h
+ingest_by c m (Ingest name come) h is = (name, come, refl, is)
+ingest_by c m _ h is = absurd is

@@ -1,6 +1,7 @@
-pub mod Built
 pub mod Callers
-pub mod Tables
 pub mod Stands
 pub mod Changes
+pub mod Reasons
+pub mod Acts
 pub mod Asking
+pub mod Ingests

@@ -1,15 +1,16 @@
 //! The last request of each caller.
-ghost use Rattle.std.specs.Prelude.{◌≡◌, ◌<◌, ◌+◌, ◌^◌, ℕ, Option, Some, OnOk, if◌then◌else◌, option_map};
+ghost use Rattle.std.specs.Prelude.{◌≡◌, ◌<◌, ◌+◌, ◌^◌, ℕ, Option, [], Some, OnOk, if◌then◌else◌, option_map};
 ghost use Rattle.std.specs.Option.{option_copied};
 ghost use Rattle.std.specs.HashMap.{get, spare};
 ghost use Rattle.news_types.specs.declared.entry.Reply.{Reply};
 ghost use Rattle.news_types.specs.Names.{Bytes, same};
-ghost use Rattle.news_types.specs.History.{Asked, number_of};
+ghost use Rattle.news_types.specs.History.{Asked, last, number_of};
+ghost use Rattle.news_types.specs.Outcome.{last_reply};
 ghost use Rattle.news_types.specs.Denial.{turn_denial, is_repeat, is_last_command};
 ghost use Rattle.newsroom.specs.Callers.{asked_of, reply_of, Remembers};
 
 use news_types::{Command, Denial, Name, Reply};
-use std::alloc::AllocError;
+use std::alloc::{AllocError, Global};
 use std::collections::HashMap;
 
 /// A caller's last request, and the reply that it was given.
@@ -75,6 +76,13 @@ pub(crate) fn replied(before: Option<&Last>) -> Reply
         },
         Some(last) => last.reply,
     }
+}
+
+/// No caller's request.
+pub(crate) fn none(alloc: Global) -> HashMap<Name, Last>
+    ensures { Remembers result (last []) (last_reply []) }
+{
+    HashMap::new(alloc)
 }
 
 /// Takes the memory for one more caller.

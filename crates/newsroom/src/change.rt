@@ -1,49 +1,32 @@
 //! What is prepared before it is kept.
-ghost use Rattle.std.specs.Prelude.{◌≡◌};
+use crate::callers::Last;
+use news_types::{Denial, Name, Reply};
+use rule_tables::{PlaceChange, RuleChange};
+use story_tables::Parts;
 
-use news_types::{Command, Denial, Memory, Moment, Name, Reply};
-
-/// A request that is accepted, with the memory for it taken. Dropped, it changes nothing.
+/// A request that is accepted, with the memory for it taken.
 #[derive(Drop)]
-pub struct Change {
-    pub(crate) moment: Moment,
+pub struct RequestChange {
+    pub(crate) parts: Parts,
+    pub(crate) rules: RuleChange,
+    pub(crate) stops: bool,
     pub(crate) caller: Name,
-    pub(crate) number: u64,
-    pub(crate) command: Command,
-    /// The command as it is remembered of its caller.
-    pub(crate) remembered: Command,
-    /// The subscribers to whom what it publishes is due.
-    pub(crate) due: Vec<Name>,
-    ghost same: { remembered ≡ command },
+    pub(crate) last: Last,
 }
 
-impl Change {
-    ghost use Rattle.std.specs.Prelude.{◌≡◌, IfOk};
-    ghost use Rattle.news_types.specs.declared.entry.Act.TheVariants.{Request};
-    ghost use Rattle.newsroom.specs.Changes.{entry_of};
+/// An ingest that is accepted, with the memory for it taken.
+#[derive(Drop)]
+pub struct IngestChange {
+    pub(crate) parts: Parts,
+    /// The item that it makes, if it makes one.
+    pub(crate) place: Option<PlaceChange>,
+}
 
-    /// A change with copies of the command.
-    pub(crate) fn of(
-        moment: Moment,
-        caller: &Name,
-        number: u64,
-        command: &Command,
-        due: Vec<Name>,
-    ) -> Result<Change, Memory>
-        ensures entry { IfOk result (λ change. entry_of change ≡ record { moment = moment; act = Request caller.now number command.now }) }
-        ensures due { IfOk result (λ change. change.due ≡ due) }
-    {
-        let remembered = command.copy()?;
-        let command = command.copy()?;
-        Ok(Change {
-            moment,
-            caller: *caller,
-            number,
-            command,
-            remembered,
-            due,
-        })
-    }
+/// An entry that is accepted, with the memory for it taken. Dropped, it changes nothing.
+#[derive(Drop)]
+pub enum Change {
+    Request(RequestChange),
+    Ingest(IngestChange),
 }
 
 /// What an act is answered before it is kept.

@@ -1,4 +1,4 @@
 mod JsonTexts
 mod Plain
-mod Sizes
+pub mod Sizes
 mod Told

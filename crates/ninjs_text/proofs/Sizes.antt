@@ -118,11 +118,12 @@ key_most false = omega arith
 moment_size : (m : ℕ) → length (moment_text m) ≡ 20
 moment_size m = refl
 
-pub members_most : (p : Publication) (uri : Bytes) → FitsStory p.story → length uri ≤ 256 → p.version < 2 ^ 32 → size (members p uri) ≤ 1_600_000
+pub members_most : (p : Publication) (uri : Bytes) → FitsStory p.story → length uri ≤ 256 → p.version < 2 ^ 32 → size (members p uri) ≤ 3_200_000
 members_most p uri fits short below =
     let body = put_text (body_key p.story.html) p.story.body no_members in
     let byline = put_filled (codes "byline") p.story.byline body in
-    let headline = put_filled (codes "headline") p.story.headline byline in
+    let copyright = put_filled (codes "copyrightholder") p.story.copyright byline in
+    let headline = put_filled (codes "headline") p.story.headline copyright in
     let language = put_filled (codes "language") p.story.language headline in
     let status = put_text (codes "pubstatus") (status_word p.kind) language in
     let slugline = put_filled (codes "slugline") p.story.slugline status in
@@ -130,11 +131,13 @@ members_most p uri fits short below =
     let urgency = put_urgency p.story.urgency media in
     let named = put_text (codes "uri") uri urgency in
     let version = put_version p.version named in
-    let front : size byline ≤ 6 * 262144 + 3200 = omega (arith, text_most (body_key p.story.html) p.story.body no_members, key_most p.story.html, fits.body, filled_most (codes "byline") p.story.byline body, fits.byline) in
-    let middle : size slugline ≤ 6 * 262144 + 10000 = omega (
+    let front : size byline ≤ 6 * 524288 + 3200 = omega (arith, text_most (body_key p.story.html) p.story.body no_members, key_most p.story.html, fits.body, filled_most (codes "byline") p.story.byline body, fits.byline) in
+    let middle : size slugline ≤ 6 * 524288 + 14000 = omega (
       arith,
       front,
-      filled_most (codes "headline") p.story.headline byline,
+      filled_most (codes "copyrightholder") p.story.copyright byline,
+      fits.copyright,
+      filled_most (codes "headline") p.story.headline copyright,
       fits.headline,
       filled_most (codes "language") p.story.language headline,
       fits.language,
@@ -157,5 +160,5 @@ members_most p uri fits short below =
     )
 
 -- an item of a story within the limits leaves room for a frame
-pub item_most : (p : Publication) (uri : Bytes) → FitsStory p.story → length uri ≤ 256 → p.version < 2 ^ 32 → length (item_bytes p uri) ≤ 2_097_088
+pub item_most : (p : Publication) (uri : Bytes) → FitsStory p.story → length uri ≤ 256 → p.version < 2 ^ 32 → length (item_bytes p uri) ≤ 4_194_240
 item_most p uri fits short below = omega (arith, first_member (members p uri), members_most p uri fits short below)

@@ -91,6 +91,7 @@ pairs p named =
     (codes "pubstatus", Some (string (status_word p.kind))) ∷
     (codes "language", filled p.story.language) ∷
     (codes "headline", filled p.story.headline) ∷
+    (codes "copyrightholder", filled p.story.copyright) ∷
     (codes "byline", filled p.story.byline) ∷
     (codes "body_html", if_html p.story.html p.story.body) ∷
     (codes "body_text", if_text p.story.html p.story.body) ∷ []
@@ -106,7 +107,8 @@ body_built false b = refl
 members_built : (p : Publication) (named : Bytes) → members p named ≡ built (pairs p named)
 members_built p named =
     let byline = ap (put_filled (codes "byline") p.story.byline) (body_built p.story.html p.story.body) ∙ cond_put (length p.story.byline == 0) (codes "byline") (string p.story.byline) _ in
-    let headline = ap (put_filled (codes "headline") p.story.headline) byline ∙ cond_put (length p.story.headline == 0) (codes "headline") (string p.story.headline) _ in
+    let copyright = ap (put_filled (codes "copyrightholder") p.story.copyright) byline ∙ cond_put (length p.story.copyright == 0) (codes "copyrightholder") (string p.story.copyright) _ in
+    let headline = ap (put_filled (codes "headline") p.story.headline) copyright ∙ cond_put (length p.story.headline == 0) (codes "headline") (string p.story.headline) _ in
     let language = ap (put_filled (codes "language") p.story.language) headline ∙ cond_put (length p.story.language == 0) (codes "language") (string p.story.language) _ in
     let status = ap (put_text (codes "pubstatus") (status_word p.kind)) language in
     let slugline = ap (put_filled (codes "slugline") p.story.slugline) status ∙ cond_put (length p.story.slugline == 0) (codes "slugline") (string p.story.slugline) _ in
@@ -132,7 +134,7 @@ abbrev uri_by : Option Data → Result Bytes NinjsFault
 uri_by o = then_read (short_text_of 256 property_is.Uri o) uri_in
 
 abbrev body_as : Property → Bool → Option Data → Result Body NinjsFault
-body_as p html o = then_read (text_by 262144 p o) (λ bytes. Ok (record { text = bytes; html = html }))
+body_as p html o = then_read (text_by 524288 p o) (λ bytes. Ok (record { text = bytes; html = html }))
 
 abbrev body_by : Option Data → Option Data → Result Body NinjsFault
 body_by plain html = cond (is_some plain) (body_as property_is.BodyText false plain) (body_as property_is.BodyHtml (is_some html) html)
@@ -172,10 +174,10 @@ read_status Recall = refl
 read_moment : (p : Property) (m : ℕ) → moment_of (moment_text m) ≡ Some (min m last_moment) → moment_of_data p (Some (string (moment_text m))) ≡ Ok (min m last_moment)
 read_moment p m e = rw e refl
 
-read_body : (html : Bool) (b : List ℕ) → length b ≤ 262144
+read_body : (html : Bool) (b : List ℕ) → length b ≤ 524288
     → body_by (option_and_then unless_null (or_else (if_text html b) None)) (option_and_then unless_null (or_else (if_html html b) None)) ≡ Ok (record { text = b; html = html })
-read_body true b short = rw (is_short (length b) 262144 short) refl
-read_body false b short = rw (is_short (length b) 262144 short) refl
+read_body true b short = rw (is_short (length b) 524288 short) refl
+read_body false b short = rw (is_short (length b) 524288 short) refl
 
 -- the item that is written is the publication that is told
 pub item_told : (p : Publication) (named : Bytes) → FitsStory p.story → 0 < length named → length named ≤ 256
@@ -193,8 +195,9 @@ item_told p named fits some short moment =
     then_ok _ p.story.byline _ _ (ap (text_by 500 property_is.Byline) (at property_is.Byline) ∙ read_filled 500 property_is.Byline p.story.byline fits.byline) (
     then_ok _ p.story.slugline _ _ (ap (text_by 500 property_is.Slugline) (at property_is.Slugline) ∙ read_filled 500 property_is.Slugline p.story.slugline fits.slugline) (
     then_ok _ p.story.language _ _ (ap (text_by 35 property_is.Language) (at property_is.Language) ∙ read_filled 35 property_is.Language p.story.language fits.language) (
+    then_ok _ p.story.copyright _ _ (ap (text_by 500 property_is.CopyrightHolder) (at property_is.CopyrightHolder) ∙ read_filled 500 property_is.CopyrightHolder p.story.copyright fits.copyright) (
     then_ok _ (record { text = p.story.body; html = p.story.html }) _ _ ((λ i. body_by (at property_is.BodyText i) (at property_is.BodyHtml i)) ∙ read_body p.story.html p.story.body fits.body) (
-    λ i. Ok (record (told p named) { status = read_status p.kind i; story = record (told p named).story { kind = read_media p.story.kind i } }))))))))))))
+    λ i. Ok (record (told p named) { status = read_status p.kind i; story = record (told p named).story { kind = read_media p.story.kind i } })))))))))))))
 
 -- ---- how deep it nests
 
@@ -246,17 +249,17 @@ pub item_flat : (p : Publication) (named : Bytes) → depth (object (members p n
 item_flat p named =
     let text = λ (b : List ℕ). cond_flat (length b == 0) (string b) refl in
     ap (λ ms. depth (object ms)) (members_built p named)
-    ∙ ap suc (built_flat (pairs p named) (refl, (refl, (refl, (cond_flat (p.story.urgency == 0) (number (unsigned p.story.urgency)) refl, (refl, (text p.story.slugline, (refl, (text p.story.language, (text p.story.headline, (text p.story.byline, (html_flat p.story.html p.story.body, (cond_flat p.story.html (string p.story.body) refl, cc)))))))))))))
+    ∙ ap suc (built_flat (pairs p named) (refl, (refl, (refl, (cond_flat (p.story.urgency == 0) (number (unsigned p.story.urgency)) refl, (refl, (text p.story.slugline, (refl, (text p.story.language, (text p.story.headline, (text p.story.copyright, (text p.story.byline, (html_flat p.story.html p.story.body, (cond_flat p.story.html (string p.story.body) refl, cc))))))))))))))
 
 -- ---- the bytes
 
 pub bytes_told : (p : Publication) (named bytes : List ℕ) → FitsStory p.story → 0 < length named → length named ≤ 256
-    → moment_of (moment_text p.release) ≡ Some (min p.release last_moment) → length bytes ≤ 2_097_088 → json_of bytes ≡ Some (object (members p named)) → ninjs bytes ≡ Ok (told p named)
+    → moment_of (moment_text p.release) ≡ Some (min p.release last_moment) → length bytes ≤ 4_194_240 → json_of bytes ≡ Some (object (members p named)) → ninjs bytes ≡ Ok (told p named)
 bytes_told p named bytes fits some short moment few json =
     rw (not_more (length bytes) few, json) (item_told p named fits some short moment)
   where
-    not_more : (n : ℕ) → n ≤ 2_097_088 → nat_lt 2_097_152 n ≡ false
-    not_more n h = le-ltb 2_097_152 n (omega arith)
+    not_more : (n : ℕ) → n ≤ 4_194_240 → nat_lt 4_194_304 n ≡ false
+    not_more n h = le-ltb 4_194_304 n (omega arith)
 
 pub with_both : {X Y : Type 0} (r : Result X Y) (P Q R : X → Type 0) → ((x : X) → P x → Q x → R x) → IfOk r P → IfOk r Q → IfOk r R
 with_both (Ok x) P Q R f p q = f x p q

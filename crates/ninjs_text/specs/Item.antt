@@ -33,7 +33,7 @@ text_or_empty limit p d = then_read (short_text limit p d) or_empty
 
 -- a body of this property
 abbrev pub body_in : Property → Bool → Data → Result Body NinjsFault
-body_in p html d = then_read (text_or_empty 262144 p d) (λ bytes. Ok (record { text = bytes; html = html }))
+body_in p html d = then_read (text_or_empty 524288 p d) (λ bytes. Ok (record { text = bytes; html = html }))
 
 -- HTML is read only where there is no plain text
 abbrev pub body : Data → Result Body NinjsFault
@@ -56,6 +56,7 @@ item d =
     then_read (text_or_empty 500 property_is.Byline d) (λ byline.
     then_read (text_or_empty 500 property_is.Slugline d) (λ slugline.
     then_read (text_or_empty 35 property_is.Language d) (λ language.
+    then_read (text_or_empty 500 property_is.CopyrightHolder d) (λ copyright.
     then_read (body d) (λ (told : Body).
     Ok (record {
       identity = identity;
@@ -72,8 +73,9 @@ item d =
         category = [];
         body = told.text;
         html = told.html;
+        copyright = copyright;
       };
-    }))))))))))))
+    })))))))))))))
 
 abbrev pub if_object : Option Members → Data → Result Incoming NinjsFault
 if_object None d = Err NotObject
@@ -83,6 +85,6 @@ abbrev pub if_json : Option Data → Result Incoming NinjsFault
 if_json None = Err NotJson
 if_json (Some d) = if_object (as_object d) d
 
--- one JSON value of at most 2097152 bytes, an object
+-- one JSON value of at most 4194304 bytes, an object
 abbrev pub ninjs : List ℕ → Result Incoming NinjsFault
-ninjs bytes = if nat_lt 2097152 (length bytes) then Err NotJson else if_json (json_of bytes)
+ninjs bytes = if nat_lt 4194304 (length bytes) then Err NotJson else if_json (json_of bytes)

@@ -21,6 +21,7 @@ property_name property_is.Headline = codes "headline"
 property_name property_is.Byline = codes "byline"
 property_name property_is.Slugline = codes "slugline"
 property_name property_is.Language = codes "language"
+property_name property_is.CopyrightHolder = codes "copyrightholder"
 property_name property_is.BodyText = codes "body_text"
 property_name property_is.BodyHtml = codes "body_html"
 

@@ -38,8 +38,9 @@ members publication uri =
     (put_text (codes "pubstatus") (status_word publication.kind)
     (put_filled (codes "language") publication.story.language
     (put_filled (codes "headline") publication.story.headline
+    (put_filled (codes "copyrightholder") publication.story.copyright
     (put_filled (codes "byline") publication.story.byline
-    (put_text (body_key publication.story.html) publication.story.body no_members))))))))))
+    (put_text (body_key publication.story.html) publication.story.body no_members)))))))))))
 
 abbrev pub item_bytes : Publication → Bytes → List ℕ
 item_bytes publication uri = compact_text (object (members publication uri))

@@ -18,6 +18,7 @@ pub enum Property {
     Byline,
     Slugline,
     Language,
+    CopyrightHolder,
     BodyText,
     BodyHtml,
 }
@@ -38,6 +39,7 @@ impl Property {
             Property::Byline => "byline",
             Property::Slugline => "slugline",
             Property::Language => "language",
+            Property::CopyrightHolder => "copyrightholder",
             Property::BodyText => "body_text",
             Property::BodyHtml => "body_html",
         }
@@ -47,7 +49,7 @@ impl Property {
 /// Why an item is not read.
 #[derive(Clone, Copy, Debug, PartialEq, Eq)]
 pub enum NinjsFault {
-    /// More than 2097152 bytes, not UTF-8, or not one JSON value that nests at most 127 deep.
+    /// More than 4194304 bytes, not UTF-8, or not one JSON value that nests at most 127 deep.
     NotJson,
     /// A JSON value that is no object.
     NotObject,

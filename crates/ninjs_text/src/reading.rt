@@ -13,7 +13,7 @@ use serde_json::Value;
 use std::alloc::Global;
 
 /// The most bytes that an item may have.
-const LONGEST_ITEM: usize = 2_097_152;
+const LONGEST_ITEM: usize = 4_194_304;
 
 /// Reads one item.
 ///
@@ -60,6 +60,7 @@ fn item(alloc: Global, object: &Value) -> Result<Incoming, NinjsFault>
     let byline = copied_text(alloc, object, Property::Byline, 500)?;
     let slugline = copied_text(alloc, object, Property::Slugline, 500)?;
     let language = copied_text(alloc, object, Property::Language, 35)?;
+    let copyright = copied_text(alloc, object, Property::CopyrightHolder, 500)?;
     let body = read_body(alloc, object)?;
     let category = Text::copy_of(alloc, "")?;
     Ok(Incoming {
@@ -77,6 +78,7 @@ fn item(alloc: Global, object: &Value) -> Result<Incoming, NinjsFault>
             category,
             body: body.text,
             html: body.html,
+            copyright,
         },
     })
 }
@@ -124,13 +126,13 @@ struct Body {
 /// The body: `body_text`, and only where that is missing `body_html`, as it is.
 fn read_body(alloc: Global, object: &Value) -> Result<Body, NinjsFault>
     ensures value { IsRead (said.body (view object.now)) result }
-    ensures bound { IfOk result (λ body. length body.text ≤ 262_144) }
+    ensures bound { IfOk result (λ body. length body.text ≤ 524_288) }
 {
     if present(object, Property::BodyText).is_some() {
-        let text = copied_text(alloc, object, Property::BodyText, 262_144)?;
+        let text = copied_text(alloc, object, Property::BodyText, 524_288)?;
         return Ok(Body { text, html: false });
     }
-    let text = copied_text(alloc, object, Property::BodyHtml, 262_144)?;
+    let text = copied_text(alloc, object, Property::BodyHtml, 524_288)?;
     let html = present(object, Property::BodyHtml).is_some();
     Ok(Body { text, html })
 }

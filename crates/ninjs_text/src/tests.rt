@@ -17,6 +17,7 @@ struct Item {
     headline: &'static str,
     body: &'static str,
     html: bool,
+    copyright: &'static str,
 }
 
 const FIRE: &str =
@@ -39,6 +40,7 @@ const ITEMS: [Item; 3] = [
         headline: "Fire",
         body: "Smoke.",
         html: false,
+        copyright: "X",
     },
     Item {
         bytes: PICTURE,
@@ -50,6 +52,7 @@ const ITEMS: [Item; 3] = [
         headline: "",
         body: "<p>&amp;</p>",
         html: true,
+        copyright: "",
     },
     Item {
         bytes: TWICE,
@@ -61,6 +64,7 @@ const ITEMS: [Item; 3] = [
         headline: "b",
         body: "",
         html: false,
+        copyright: "",
     },
 ];
 
@@ -77,6 +81,7 @@ fn tells(story: &Story, item: Item) -> bool {
         && story.headline.as_str() == item.headline
         && story.body.as_str() == item.body
         && story.html == item.html
+        && story.copyright.as_str() == item.copyright
 }
 
 fn is_read(alloc: Global, item: Item) -> bool {
@@ -95,7 +100,7 @@ fn items(rt: HostRuntime) -> Result<(), Fail> {
 }
 
 // Items that are none, and why.
-const NO_ITEMS: [(&str, NinjsFault); 10] = [
+const NO_ITEMS: [(&str, NinjsFault); 11] = [
     ("", NinjsFault::NotJson),
     (r#"{"uri":"x"} {}"#, NinjsFault::NotJson),
     (r#"{"uri":"x","version":1e999}"#, NinjsFault::NotJson),
@@ -103,13 +108,15 @@ const NO_ITEMS: [(&str, NinjsFault); 10] = [
     ("[]", NinjsFault::NotObject),
     (r#""uri""#, NinjsFault::NotObject),
     ("{}", NinjsFault::NoUri),
+    (r#"{"uri":null}"#, NinjsFault::NoUri),
     (r#"{"uri":null,"type":7}"#, NinjsFault::NoUri),
     (r#"{"uri":"","type":7}"#, NinjsFault::NoUri),
     (r#"{"uri":"x","uri":null}"#, NinjsFault::NoUri),
 ];
 
 // Items, and the first property of each that is not of its form.
-const WRONG: [(&str, Property); 16] = [
+const WRONG: [(&str, Property); 17] = [
+    (r#"{"uri":7}"#, Property::Uri),
     (r#"{"uri":["x"],"type":7}"#, Property::Uri),
     (r#"{"uri":"x","pubstatus":7,"type":7}"#, Property::MediaType),
     (
@@ -181,14 +188,15 @@ fn faulty_items(rt: HostRuntime) -> Result<(), Fail> {
 }
 
 // The limits on texts, in bytes.
-const LIMITS: [(&str, usize, Property); 7] = [
+const LIMITS: [(&str, usize, Property); 8] = [
     ("uri", 256, Property::Uri),
     ("headline", 500, Property::Headline),
     ("byline", 500, Property::Byline),
     ("slugline", 500, Property::Slugline),
     ("language", 35, Property::Language),
-    ("body_text", 262_144, Property::BodyText),
-    ("body_html", 262_144, Property::BodyHtml),
+    ("copyrightholder", 500, Property::CopyrightHolder),
+    ("body_text", 524_288, Property::BodyText),
+    ("body_html", 524_288, Property::BodyHtml),
 ];
 
 /// The fault of an item whose text at the key has `n` bytes.
@@ -237,6 +245,7 @@ fn an_item_nests_127_deep(rt: HostRuntime) -> Result<(), Fail> {
     let alloc = rt.alloc();
     assert!(rt; fault_of_nested(alloc, 126)? == None);
     assert!(rt; fault_of_nested(alloc, 127)? == Some(NinjsFault::NotJson));
+    assert!(rt; fault_of_nested(alloc, 128)? == Some(NinjsFault::NotJson));
     Ok(())
 }
 
@@ -248,10 +257,10 @@ fn fault_of_size(alloc: Global, n: usize) -> Result<Option<NinjsFault>, Memory> 
 }
 
 #[test]
-fn an_item_has_2097152_bytes(rt: HostRuntime) -> Result<(), Fail> {
+fn an_item_has_4194304_bytes(rt: HostRuntime) -> Result<(), Fail> {
     let alloc = rt.alloc();
-    assert!(rt; fault_of_size(alloc, 2_097_152)? == None);
-    assert!(rt; fault_of_size(alloc, 2_097_153)? == Some(NinjsFault::NotJson));
+    assert!(rt; fault_of_size(alloc, 4_194_304)? == None);
+    assert!(rt; fault_of_size(alloc, 4_194_305)? == Some(NinjsFault::NotJson));
     assert!(rt; fault_of(alloc, b"{\"uri\":\"\xff\"}") == Some(NinjsFault::NotJson));
     Ok(())
 }
@@ -269,6 +278,7 @@ fn story(alloc: Global, kind: Media, urgency: u8, html: bool) -> Result<Story, M
         category: Text::copy_of(alloc, "pl")?,
         body: Text::copy_of(alloc, "Smoke.")?,
         html,
+        copyright: Text::copy_of(alloc, "")?,
     })
 }
 
@@ -317,6 +327,7 @@ fn a_correction_is_read_again(rt: HostRuntime) -> Result<(), Fail> {
         headline: "Fire",
         body: "Smoke.",
         html: false,
+        copyright: "",
     };
     let again = read(alloc, bytes.as_slice()).ok();
     assert!(rt; again.map(|incoming| says(&incoming, item)) == Some(true));

@@ -1,6 +1,5 @@
 //! The words of an item.
 ghost use Rattle.std.specs.Prelude.{◌≡◌};
-ghost use Rattle.news_types.specs.Conditions.{media_word};
 ghost use Rattle.ninjs_text.specs.Words as said;
 
 use news_types::{Kind, Media, PubStatus};
@@ -28,20 +27,6 @@ pub(crate) fn status_of(word: &str) -> PubStatus
         "withhelded" => PubStatus::Withheld,
         "canceled" => PubStatus::Canceled,
         _ => PubStatus::Usable,
-    }
-}
-
-/// The `type` of a story of this kind.
-pub(crate) fn word_of_media(media: Media) -> &'static str
-    ensures { result.now ≡ media_word media }
-{
-    match media {
-        Media::Text => "text",
-        Media::Audio => "audio",
-        Media::Video => "video",
-        Media::Picture => "picture",
-        Media::Graphic => "graphic",
-        Media::Composite => "composite",
     }
 }
 

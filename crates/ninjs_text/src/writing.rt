@@ -14,7 +14,7 @@ ghost use Rattle.ninjs_text.specs.Told.{told};
 ghost use Rattle.ninjs_text.specs.Writing as said;
 
 use crate::members::{put_filled, put_text, put_urgency, put_version};
-use crate::words::{status_word, word_of_media};
+use crate::words::status_word;
 use news_types::{Bytes, Memory, Publication, Text};
 use release_rules::text_of_moment;
 use serde_json::{Map, Value};
@@ -22,14 +22,14 @@ use std::alloc::{AllocError, Global};
 
 /// The publication as one item, whose `uri` is the item's own.
 ///
-/// A byline, headline, language or slugline that is empty is left out, and so is an urgency of 0. The category is not
+/// A byline, copyright, headline, language or slugline that is empty is left out, and so is an urgency of 0. The category is not
 /// written.
 pub fn write(alloc: Global, publication: &Publication, uri: &Text) -> Result<Bytes, Memory>
     ensures value { IfOk result (λ bytes. bytes ≡ said.item_bytes publication.now uri.now) }
     // it is read again, but for the category
     ensures read_again { FitsStory publication.now.story → 0 < length uri.now → length uri.now ≤ 256 → IfOk result (λ bytes. ninjs bytes ≡ Ok (told publication.now uri.now)) }
     // a frame has room for it
-    ensures size { FitsStory publication.now.story → length uri.now ≤ 256 → IfOk result (λ bytes. length bytes ≤ 2_097_088) }
+    ensures size { FitsStory publication.now.story → length uri.now ≤ 256 → IfOk result (λ bytes. length bytes ≤ 4_194_240) }
 {
     let members = members_of(alloc, publication, uri)?;
     written(alloc, members)
@@ -64,6 +64,12 @@ fn members_of(
         story.body.as_str(),
     )?;
     put_filled(&mut members, alloc, "byline", story.byline.as_str())?;
+    put_filled(
+        &mut members,
+        alloc,
+        "copyrightholder",
+        story.copyright.as_str(),
+    )?;
     put_filled(&mut members, alloc, "headline", story.headline.as_str())?;
     put_filled(&mut members, alloc, "language", story.language.as_str())?;
     put_text(
@@ -73,7 +79,7 @@ fn members_of(
         status_word(publication.kind),
     )?;
     put_filled(&mut members, alloc, "slugline", story.slugline.as_str())?;
-    put_text(&mut members, alloc, "type", word_of_media(story.kind))?;
+    put_text(&mut members, alloc, "type", story.kind.word())?;
     put_urgency(&mut members, alloc, story.urgency)?;
     put_text(&mut members, alloc, "uri", uri.as_str())?;
     put_version(&mut members, alloc, publication.version)?;

@@ -1,5 +1,5 @@
 -- What is asked of the table is what is asked of the list whose facts it keeps.
-use Rattle.std.proofs.Common.{◌≡◌, Bool, true, false, not, ◌&&◌, cond, List, [], ◌∷◌, ◌++◌, Option, Some, None, is_some, length, append_assoc, refl, ap, ◌∙◌}
+use Rattle.std.proofs.Common.{◌≡◌, ℕ, Bool, true, false, not, ◌&&◌, cond, List, [], ◌∷◌, ◌++◌, Option, Some, None, is_some, length, append_assoc, refl, ap, ◌∙◌}
 use Rattle.std.specs.List.{list_all}
 use Rattle.std.specs.Option.{option_map}
 use Rattle.std.specs.HashMap.{get}
@@ -47,6 +47,10 @@ pub one_first : (there : Bool) (what : Thing) (rest : List Thing) → first_miss
 one_first true what rest = refl
 one_first false what rest = refl
 
+pub missing_one : (there : Bool) (what : Thing) → first_missing (absent there what) ≡ cond there None (Some (UnknownThing what))
+missing_one true what = refl
+missing_one false what = refl
+
 pub all_first : (is_there : Bytes → Bool) (what : Thing) (names : List Bytes) (rest : List Thing) → first_missing (absent_of is_there what names ++ rest) ≡ cond (list_all is_there names) (first_missing rest) (Some (UnknownThing what))
 all_first is_there what [] rest = refl
 all_first is_there what (name ∷ names) rest =
@@ -74,15 +78,15 @@ first_three false b denial limit = refl
 first_three true true denial limit = refl
 first_three true false denial limit = or_none limit
 
-pub new_judged : (h : History) (subscriber : Bytes) (format : Format) (products : List Bytes) → judge_denial h (AddSubscriber subscriber format products)
+pub new_judged : (h : History) (subscriber : Bytes) (format : Format) (products : List Bytes) (lag : ℕ) → judge_denial h (AddSubscriber subscriber format products lag)
     ≡ cond (list_all (is_product h) products) (cond (is_subscriber h subscriber) (Some NameTaken) (full thing.Subscriber (length (subscribers h)))) (Some (UnknownThing thing.Product))
-new_judged h subscriber format products =
+new_judged h subscriber format products lag =
     ap (λ o. or_else o (or_else (unless (not (is_subscriber h subscriber)) NameTaken) (or_else (full thing.Subscriber (length (subscribers h))) None))) (all_last (is_product h) thing.Product products)
     ∙ first_three (list_all (is_product h) products) (is_subscriber h subscriber) (UnknownThing thing.Product) (full thing.Subscriber (length (subscribers h)))
 
-pub other_judged : (h : History) (subscriber : Bytes) (active : Bool) (products off : List Bytes) → judge_denial h (SetSubscriber subscriber active products off)
+pub other_judged : (h : History) (subscriber : Bytes) (active : Bool) (products off : List Bytes) (lag : Option ℕ) → judge_denial h (SetSubscriber subscriber active products off lag)
     ≡ cond (is_subscriber h subscriber) (cond (list_all (is_product h) products) (cond (list_all (is_filter h) off) None (Some (UnknownThing thing.Filter))) (Some (UnknownThing thing.Product))) (Some (UnknownThing thing.Subscriber))
-other_judged h subscriber active products off =
+other_judged h subscriber active products off lag =
     or_none (first_missing (absent (is_subscriber h subscriber) thing.Subscriber ++ absent_of (is_product h) thing.Product products ++ absent_of (is_filter h) thing.Filter off))
     ∙ ap first_missing (append_assoc (absent (is_subscriber h subscriber) thing.Subscriber) (absent_of (is_product h) thing.Product products) (absent_of (is_filter h) thing.Filter off))
     ∙ one_first (is_subscriber h subscriber) thing.Subscriber (absent_of (is_product h) thing.Product products ++ absent_of (is_filter h) thing.Filter off)

@@ -10,7 +10,7 @@ use Rattle.news_types.specs.declared.story.Story.{Story}
 use Rattle.news_types.specs.Names.{Bytes, same, is_in}
 use Rattle.news_types.specs.History.{History}
 use Rattle.news_types.specs.Products.{subscribers}
-use Rattle.news_types.specs.Publications.{Pub, is_due_by}
+use Rattle.news_types.specs.Due.{Pub, is_due_by}
 use Rattle.products.specs.declared.table.Products.{Products}
 use Rattle.products.specs.Keeps.{KeepsFacts}
 use Rattle.products.specs.Asked.{AreDue}
@@ -35,14 +35,14 @@ pub in_filter : (p : Bytes → Bool) (xs : List Bytes) (s : Bytes) → is_in s (
 in_filter p [] s = refl
 in_filter p (x ∷ xs) s = in_more p x s xs (filter p xs) (in_filter p xs s) (same s x) (p x) refl refl
 
-module _ (t : Products) (h : History) (ps : List Pub) (kind : Kind) (i : ℕ) (story : Story) (targets : List Bytes) where
-  pub are_due : (test : Bytes → Bool) (names : List Bytes) → KeepsFacts t h → ((s : Bytes) → test s ≡ is_due_by h ps kind i story targets s) → names ≡ filter test t.names.items → AreDue names h ps kind i story targets
+module _ (t : Products) (h : History) (ps : List Pub) (kind : Kind) (i : ℕ) (story : Story) (release : ℕ) (targets : List Bytes) where
+  pub are_due : (test : Bytes → Bool) (names : List Bytes) → KeepsFacts t h → ((s : Bytes) → test s ≡ is_due_by h ps kind i story release targets s) → names ≡ filter test t.names.items → AreDue names h ps kind i story release targets
   are_due test names keeps alike is = record {
     each = λ s.
         ap (is_in s) is
         ∙ in_filter test t.names.items s
         ∙ ap (λ b. b && test s) (keeps.named s)
         ∙ ap (λ b. is_in s (subscribers h) && b) (alike s)
-        ∙ sym (in_filter (is_due_by h ps kind i story targets) (subscribers h) s);
+        ∙ sym (in_filter (is_due_by h ps kind i story release targets) (subscribers h) s);
     order = rw is (IsStrictlySortedBy-filter (slice_cmp nat_cmp) test t.names.items keeps.order);
   }

@@ -4,22 +4,23 @@ use Rattle.std.specs.List.{list_any}
 use Rattle.news_types.specs.declared.command.Command.{Command}
 use Rattle.news_types.specs.declared.command.Command.TheVariants.{AddProduct, SetProduct, AddSubscriber, SetSubscriber}
 use Rattle.news_types.specs.declared.words.Kind.{Kind}
+use Rattle.news_types.specs.declared.words.Kind.TheVariants.{Kill, Recall}
 use Rattle.news_types.specs.declared.story.Story.{Story}
 use Rattle.news_types.specs.declared.denial.Denial.{Denial}
 use Rattle.news_types.specs.declared.denial.Denial.TheVariants.{NameTaken}
-use Rattle.news_types.specs.Names.{Bytes, is_in}
+use Rattle.news_types.specs.Names.{Bytes, is_in, AreInOrder}
 use Rattle.news_types.specs.History.{History}
 use Rattle.news_types.specs.Conditions.{condition}
 use Rattle.news_types.specs.Filters.{filters as filter_list}
 use Rattle.news_types.specs.Products.{Subscriber, product, product_permits, is_blocked}
-use Rattle.news_types.specs.Publications.{Pub, had, due_names}
+use Rattle.news_types.specs.Due.{Pub, had, had_by, due_names}
 use Rattle.news_types.specs.Denial.{unless, first_of, missing, first_missing, is_taken, limit_denial}
 use Rattle.content_filters.specs.declared.table.Filters.{Filters}
 use Rattle.content_filters.specs.declared.verdicts.Verdicts.{Verdicts}
 use Rattle.content_filters.specs.Keeps.{AreVerdicts}
 use Rattle.content_filters.specs.Reasons.{KeepsFacts as KeepsFilters}
 use Rattle.products.specs.declared.table.Products.{Products}
-use Rattle.products.specs.Keeps.{AreInOrder, KeepsFacts}
+use Rattle.products.specs.Keeps.{KeepsFacts}
 
 -- both tables keep the facts of the list
 pub record Keep (t : Products) (filters : Filters) (h : History) : Type 0 where
@@ -47,8 +48,8 @@ is_there_if_given is_there (Some name) = is_there name
 abbrev pub is_asked : Command → Bool
 is_asked (AddProduct product how filter) = true
 is_asked (SetProduct product how filter) = true
-is_asked (AddSubscriber subscriber format products) = true
-is_asked (SetSubscriber subscriber active products off) = true
+is_asked (AddSubscriber subscriber format products lag) = true
+is_asked (SetSubscriber subscriber active products off lag) = true
 is_asked _ = false
 
 -- the first reason to deny such a command: something that it names is not there, its name is taken, there are too many
@@ -58,11 +59,18 @@ judge_denial h command =
     then first_of (first_missing (missing h command) ∷ unless (not (is_taken h command)) NameTaken ∷ limit_denial h command ∷ [])
     else None
 
--- those who were due one of these of the item
-abbrev pub AreEarlier : List Bytes → List Pub → ℕ → Type 0
-AreEarlier earlier ps i = (s : Bytes) → is_in s earlier ≡ had ps i s
+-- whom a publication of this kind and release reaches, whatever is permitted: a correction those to whom one of these of the item
+-- is due, a kill or a recall those to whom one is released by then
+abbrev pub is_reached : List Pub → Kind → ℕ → ℕ → Bytes → Bool
+is_reached ps Kill i release s = had_by release ps i s
+is_reached ps Recall i release s = had_by release ps i s
+is_reached ps kind i release s = had ps i s
+
+-- the names of these
+abbrev pub AreEarlier : List Bytes → List Pub → Kind → ℕ → ℕ → Type 0
+AreEarlier earlier ps kind i release = (s : Bytes) → is_in s earlier ≡ is_reached ps kind i release s
 
 -- the names to whom a publication is due, in byte order
-pub record AreDue (names : List Bytes) (h : History) (ps : List Pub) (kind : Kind) (i : ℕ) (story : Story) (targets : List Bytes) : Type 0 where
-  pub each : (s : Bytes) → is_in s names ≡ is_in s (due_names h ps kind i story targets)
+pub record AreDue (names : List Bytes) (h : History) (ps : List Pub) (kind : Kind) (i : ℕ) (story : Story) (release : ℕ) (targets : List Bytes) : Type 0 where
+  pub each : (s : Bytes) → is_in s names ≡ is_in s (due_names h ps kind i story release targets)
   pub order : AreInOrder names

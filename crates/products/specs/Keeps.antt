@@ -1,14 +1,12 @@
 -- Which products and subscribers the table keeps.
 use Rattle.std.specs.Prelude.{◌≡◌, ℕ, List, length, Option, is_some, option_map, vec_len}
 use Rattle.std.specs.HashMap.{get, hash_map_len}
-use Rattle.std.specs.Ordering.{nat_cmp}
-use Rattle.std.specs.List.Sorted.{IsStrictlySortedBy}
-use Rattle.std.specs.Cmp.Lexicographic.{slice_cmp}
-use Rattle.news_types.specs.Names.{Bytes, same, is_in}
+use Rattle.news_types.specs.Names.{Bytes, same, is_in, AreInOrder}
 use Rattle.news_types.specs.History.{History}
 use Rattle.news_types.specs.Products.{Product, Subscriber, product, product_count, subscriber, subscribers}
 use Rattle.products.specs.declared.table.KeptProduct.{KeptProduct}
 use Rattle.products.specs.declared.table.KeptSubscriber.{KeptSubscriber}
+use Rattle.products.specs.declared.table.Terms.{Terms}
 use Rattle.products.specs.declared.table.Products.{Products}
 
 -- the product that is kept
@@ -17,11 +15,11 @@ product_of kept = record { how = kept.how; filter = kept.filter }
 
 -- the subscriber that is kept
 abbrev pub subscriber_of : KeptSubscriber → Subscriber
-subscriber_of kept = record { format = kept.format; active = kept.active; products = kept.products; off = kept.off }
+subscriber_of kept = record { format = kept.format; active = kept.active; products = kept.products; off = kept.off; lag = kept.lag }
 
--- in byte order, each but once
-abbrev pub AreInOrder : List Bytes → Type 0
-AreInOrder names = IsStrictlySortedBy (slice_cmp nat_cmp) names
+-- its format, and its lag
+abbrev pub terms_of : KeptSubscriber → Terms
+terms_of kept = record { format = kept.format; lag = kept.lag }
 
 -- the table keeps these facts: the product of each name, how many there are, the subscriber of each name, and the names of the subscribers
 pub record Keeps (t : Products) (product : Bytes → Option Product) (count : ℕ) (subscriber : Bytes → Option Subscriber) (names : List Bytes) : Type 0 where

@@ -1,18 +1,19 @@
 //! Changes of the table: their memory is taken first, and they are made later without any.
-ghost use Rattle.std.specs.Prelude.{◌≡◌, ◌+◌, ◌<◌, ℕ, List, [], ◌∷◌, Option, Some, None, IfOk, OnOk, true, is_some, if◌then◌else◌, vec_len, vec_capacity};
+ghost use Rattle.std.specs.Prelude.{◌≡◌, ◌+◌, ◌<◌, ℕ, List, [], ◌∷◌, Option, Some, None, IfOk, true, is_some, if◌then◌else◌, vec_len, vec_capacity};
 ghost use Rattle.std.specs.HashMap.{get, hash_map_len, spare};
 ghost use Rattle.news_types.specs.Names.{Bytes, same};
 ghost use Rattle.news_types.specs.History.{History};
 ghost use Rattle.news_types.specs.Products.{Product, Subscriber, product, product_after, products_added, subscriber, subscriber_after, subscribers_after};
+ghost use Rattle.news_types.specs.declared.entry.Entry.{Entry};
+ghost use Rattle.news_types.specs.declared.entry.Act.TheVariants.{Request};
 ghost use Rattle.news_types.specs.declared.command.Command.{Command};
 ghost use Rattle.products.specs.declared.change.Step.TheVariants as step;
 ghost use Rattle.products.specs.Keeps.{Keeps, KeepsFacts, subscriber_of};
 ghost use Rattle.products.specs.Asked.{judge_denial};
 ghost use Rattle.products.specs.Steps.{IsStep, IsFor, other_step, IsAlike, HasRoomFor, HasRoom};
 
-use crate::names::insert_in_order;
 use crate::table::{KeptProduct, KeptSubscriber, Products};
-use news_types::{Command, Format, How, Memory, Name, Names};
+use news_types::{Command, Format, How, Memory, Name, Names, insert_in_order};
 use std::collections::HashMap;
 
 /// What a change does.
@@ -47,10 +48,9 @@ impl Products {
     /// Takes the memory for a command that `judge` allows. Products and subscribers stay as they are, also where
     /// memory is wanting. A command on other things makes a change that does nothing.
     pub fn prepare(&mut self, command: &Command) -> Result<ProductChange, Memory>
-        ensures stays { (product : Bytes → Option Product) (count : ℕ) (subscriber : Bytes → Option Subscriber) (names : List Bytes)
-            → Keeps self.old product count subscriber names → Keeps self.new product count subscriber names }
+        ensures stays { (h : History) → KeepsFacts self.old h → KeepsFacts self.new h }
         ensures room { IfOk result (λ change. HasRoom self.new change) }
-        ensures change { (h : History) → KeepsFacts self.old h → judge_denial h command.now ≡ None → IfOk result (λ change. IsFor change command.now (product h) (subscriber h)) }
+        ensures change { (h : History) → KeepsFacts self.old h → judge_denial h command.now ≡ None → IfOk result (λ change. IsFor change command.now h) }
     {
         let step = self.prepare_step(command)?;
         Ok(ProductChange { step })
@@ -59,11 +59,20 @@ impl Products {
     /// Makes a change. It takes no memory. Nothing may have been committed since the change was prepared.
     pub fn commit(&mut self, change: ProductChange)
         requires { HasRoom self.old change }
-        ensures { (command : Command) (product : Bytes → Option Product) (count : ℕ) (subscriber : Bytes → Option Subscriber) (names : List Bytes)
-            → Keeps self.old product count subscriber names → IsFor change command product subscriber
-            → Keeps self.new (λ name. product_after name command (product name)) (count + products_added command) (λ name. subscriber_after name command (subscriber name)) (subscribers_after command names) }
+        ensures { (h : History) (e : Entry) (caller : Bytes) (number : ℕ) (command : Command) → KeepsFacts self.old h → IsFor change command h
+            → e.act ≡ Request caller number command → KeepsFacts self.new (e ∷ h) }
     {
         let ProductChange { step } = change;
+        self.apply(step);
+    }
+
+    /// Makes a step. It takes no memory.
+    fn apply(&mut self, step: Step)
+        requires { HasRoomFor self.old step }
+        ensures { (command : Command) (product : Bytes → Option Product) (count : ℕ) (subscriber : Bytes → Option Subscriber) (names : List Bytes)
+            → Keeps self.old product count subscriber names → IsStep step command product subscriber
+            → Keeps self.new (λ name. product_after name command (product name)) (count + products_added command) (λ name. subscriber_after name command (subscriber name)) (subscribers_after command names) }
+    {
         match step {
             Step::AddProduct { name, product } => put_product(&mut self.products, name, product),
             Step::SetProduct { name, product } => put_product(&mut self.products, name, product),
@@ -86,49 +95,59 @@ impl Products {
                 product,
                 how,
                 filter,
-            } => self.prepare_product(*product, kept_product(*how, *filter), true),
+            } => self.prepare_new_product(*product, kept_product(*how, *filter)),
             Command::SetProduct {
                 product,
                 how,
                 filter,
-            } => self.prepare_product(*product, kept_product(*how, *filter), false),
+            } => self.prepare_other_product(*product, kept_product(*how, *filter)),
             Command::AddSubscriber {
                 subscriber,
                 format,
                 products,
-            } => self.prepare_new(*subscriber, *format, products),
+                lag,
+            } => self.prepare_new(*subscriber, *format, products, *lag),
             Command::SetSubscriber {
                 subscriber,
                 active,
                 products,
                 off,
-            } => self.prepare_other(*subscriber, *active, products, off),
+                lag,
+            } => self.prepare_other(*subscriber, *active, products, off, *lag),
             _ => Ok(Step::Nothing),
         }
     }
 
-    /// Takes the memory for a product.
-    fn prepare_product(
-        &mut self,
-        name: Name,
-        product: KeptProduct,
-        is_new: bool,
-    ) -> Result<Step, Memory>
+    /// Takes the memory for a new product.
+    fn prepare_new_product(&mut self, name: Name, product: KeptProduct) -> Result<Step, Memory>
         ensures alike { IsAlike self.old self.new }
-        ensures made { IfOk result (λ made. made ≡ (if is_new then step.AddProduct name product else step.SetProduct name product)) }
+        ensures made { IfOk result (λ made. made ≡ step.AddProduct name product) }
         ensures room { IfOk result (HasRoomFor self.new) }
     {
         self.products.reserve(1)?;
-        if is_new {
-            return Ok(Step::AddProduct { name, product });
-        }
+        Ok(Step::AddProduct { name, product })
+    }
+
+    /// Takes the memory for another setting of a product.
+    fn prepare_other_product(&mut self, name: Name, product: KeptProduct) -> Result<Step, Memory>
+        ensures alike { IsAlike self.old self.new }
+        ensures made { IfOk result (λ made. made ≡ step.SetProduct name product) }
+        ensures room { IfOk result (HasRoomFor self.new) }
+    {
+        self.products.reserve(1)?;
         Ok(Step::SetProduct { name, product })
     }
 
     /// Takes the memory for a new subscriber.
-    fn prepare_new(&mut self, name: Name, format: Format, products: &Names) -> Result<Step, Memory>
+    fn prepare_new(
+        &mut self,
+        name: Name,
+        format: Format,
+        products: &Names,
+        lag: u32,
+    ) -> Result<Step, Memory>
         ensures alike { IsAlike self.old self.new }
-        ensures made { IfOk result (λ made. made ≡ step.AddSubscriber name (record { format = format; active = true; products = products.now; off = [] })) }
+        ensures made { IfOk result (λ made. made ≡ step.AddSubscriber name (record { format = format; active = true; products = products.now; off = []; lag = lag })) }
         ensures room { IfOk result (HasRoomFor self.new) }
     {
         let products = products.copy()?;
@@ -141,6 +160,7 @@ impl Products {
                 active: true,
                 products,
                 off: Names::of(Vec::new(self.alloc)),
+                lag,
             },
         })
     }
@@ -152,12 +172,13 @@ impl Products {
         active: bool,
         products: &Names,
         off: &Names,
+        lag: Option<u32>,
     ) -> Result<Step, Memory>
         ensures alike { IsAlike self.old self.new }
-        ensures made { IfOk result (λ made. made ≡ other_step self.old name active products.now off.now) }
+        ensures made { IfOk result (λ made. made ≡ other_step self.old name active products.now off.now lag) }
         ensures room { IfOk result (HasRoomFor self.new) }
     {
-        let Some(format) = self.kept_format(&name) else {
+        let Some(terms) = self.kept_terms(&name) else {
             return Ok(Step::Nothing);
         };
         let products = products.copy()?;
@@ -166,10 +187,11 @@ impl Products {
         Ok(Step::SetSubscriber {
             name,
             subscriber: KeptSubscriber {
-                format,
+                format: terms.format,
                 active,
                 products,
                 off,
+                lag: lag.unwrap_or(terms.lag),
             },
         })
     }

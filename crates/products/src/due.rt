@@ -2,7 +2,7 @@
 ghost use Rattle.std.specs.Prelude.{◌≡◌, ℕ, List, ◌||◌, IfOk, filter};
 ghost use Rattle.news_types.specs.Names.{is_in};
 ghost use Rattle.news_types.specs.History.{History};
-ghost use Rattle.news_types.specs.Publications.{Pub};
+ghost use Rattle.news_types.specs.Due.{Pub};
 ghost use Rattle.news_types.specs.Products as facts;
 ghost use Rattle.news_types.specs.declared.story.Story.{Story};
 ghost use Rattle.products.specs.Keeps.{KeepsFacts};
@@ -14,8 +14,8 @@ use news_types::{Kind, Memory, Name, Names, Story};
 
 impl Products {
     /// The names to whom a publication is due, in byte order: a first one to those who are permitted its story; a
-    /// correction to these, and to those who were due an earlier publication of its item that stands; a kill and a
-    /// recall to the latter alone, inactive ones too. `earlier` has their names.
+    /// correction to these, and to those who were due an earlier publication of its item that stands for them; a kill
+    /// and a recall to those alone to whom such a one was released, inactive ones too. `earlier` has these names.
     ///
     /// Each filter is judged once, however many subscribers there are, and none for a kill or a recall.
     pub fn due_list(
@@ -26,7 +26,7 @@ impl Products {
         earlier: &[Name],
         kind: Kind,
     ) -> Result<Names, Memory>
-        ensures { IfOk result (λ names. (h : History) (ps : List Pub) (i : ℕ) → Keep self.now filters.now h → AreEarlier earlier.now ps i → AreDue names h ps kind i story.now targets.now) }
+        ensures { IfOk result (λ names. (h : History) (ps : List Pub) (i release : ℕ) → Keep self.now filters.now h → AreEarlier earlier.now ps kind i release → AreDue names h ps kind i story.now release targets.now) }
     {
         match kind {
             Kind::First => self.permitted_names(filters, story, targets, &[]),

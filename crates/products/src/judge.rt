@@ -1,15 +1,13 @@
 //! Whether a command on products or subscribers is allowed.
-ghost use Rattle.std.specs.Prelude.{◌≡◌, Bool, Some, is_some, nat_lt};
+ghost use Rattle.std.specs.Prelude.{◌≡◌, ℕ, Bool, Option, is_some};
 ghost use Rattle.std.specs.List.{list_all};
 ghost use Rattle.std.specs.HashMap.{get};
 ghost use Rattle.news_types.specs.Names.{same};
 ghost use Rattle.news_types.specs.History.{History};
-ghost use Rattle.news_types.specs.Denial as denial;
 ghost use Rattle.news_types.specs.Filters.{is_filter};
 ghost use Rattle.news_types.specs.declared.command.Command.TheVariants as command;
 ghost use Rattle.news_types.specs.declared.words.How.{How};
 ghost use Rattle.news_types.specs.declared.words.Format.{Format};
-ghost use Rattle.news_types.specs.declared.denial.Denial.TheVariants.{UnknownThing, Limit};
 ghost use Rattle.content_filters.specs.Reasons.{KeepsFacts as KeepsFilters};
 ghost use Rattle.products.specs.Keeps.{KeepsFacts};
 ghost use Rattle.products.specs.Asked.{Keep, judge_denial, is_there_if_given};
@@ -66,12 +64,12 @@ impl Products {
         ensures { (h : History) (how : How) → Keep self.now filters.now h → result ≡ judge_denial h (command.AddProduct product.now how filter.now) }
     {
         if !has_filter(filters, filter) {
-            return unknown(Thing::Filter);
+            return Denial::unless_there(Thing::Filter, false);
         }
         if self.has_product(product) {
             return Some(Denial::NameTaken);
         }
-        full(Thing::Product, self.products.len(), MOST_PRODUCTS)
+        Denial::unless_below(Thing::Product, self.products.len(), MOST_PRODUCTS)
     }
 
     /// The first reason to deny a product another filter.
@@ -84,25 +82,22 @@ impl Products {
         ensures { (h : History) (how : How) → Keep self.now filters.now h → result ≡ judge_denial h (command.SetProduct product.now how filter.now) }
     {
         if !self.has_product(product) {
-            return unknown(Thing::Product);
+            return Denial::unless_there(Thing::Product, false);
         }
-        if !has_filter(filters, filter) {
-            return unknown(Thing::Filter);
-        }
-        None
+        Denial::unless_there(Thing::Filter, has_filter(filters, filter))
     }
 
     /// The first reason to deny a new subscriber.
     fn new_subscriber(&self, subscriber: &Name, products: &[Name]) -> Option<Denial>
-        ensures { (h : History) (format : Format) → KeepsFacts self.now h → result ≡ judge_denial h (command.AddSubscriber subscriber.now format products.now) }
+        ensures { (h : History) (format : Format) (lag : ℕ) → KeepsFacts self.now h → result ≡ judge_denial h (command.AddSubscriber subscriber.now format products.now lag) }
     {
         if !self.has_all(products) {
-            return unknown(Thing::Product);
+            return Denial::unless_there(Thing::Product, false);
         }
         if self.has_subscriber(subscriber) {
             return Some(Denial::NameTaken);
         }
-        full(Thing::Subscriber, self.names.len(), MOST_SUBSCRIBERS)
+        Denial::unless_below(Thing::Subscriber, self.names.len(), MOST_SUBSCRIBERS)
     }
 
     /// The first reason to deny a subscriber other products.
@@ -113,18 +108,15 @@ impl Products {
         products: &[Name],
         off: &[Name],
     ) -> Option<Denial>
-        ensures { (h : History) (active : Bool) → Keep self.now filters.now h → result ≡ judge_denial h (command.SetSubscriber subscriber.now active products.now off.now) }
+        ensures { (h : History) (active : Bool) (lag : Option ℕ) → Keep self.now filters.now h → result ≡ judge_denial h (command.SetSubscriber subscriber.now active products.now off.now lag) }
     {
         if !self.has_subscriber(subscriber) {
-            return unknown(Thing::Subscriber);
+            return Denial::unless_there(Thing::Subscriber, false);
         }
         if !self.has_all(products) {
-            return unknown(Thing::Product);
+            return Denial::unless_there(Thing::Product, false);
         }
-        if !has_filters(filters, off) {
-            return unknown(Thing::Filter);
-        }
-        None
+        Denial::unless_there(Thing::Filter, has_filters(filters, off))
     }
 
     /// Whether each of the products is there.
@@ -155,24 +147,4 @@ fn has_filters(filters: &Filters, names: &[Name]) -> bool
         }
     }
     true
-}
-
-/// That a thing of the kind is not there.
-fn unknown(thing: Thing) -> Option<Denial>
-    ensures { result ≡ Some (UnknownThing thing) }
-{
-    Some(Denial::UnknownThing { thing })
-}
-
-/// That there are so many already.
-fn full(which: Thing, count: usize, limit: u32) -> Option<Denial>
-    ensures { result ≡ denial.unless (nat_lt count limit) (Limit which limit) }
-{
-    if count < limit as usize {
-        return None;
-    }
-    Some(Denial::Limit {
-        which,
-        number: limit,
-    })
 }

@@ -4,7 +4,6 @@
 mod change;
 mod due;
 mod judge;
-mod names;
 mod permit;
 mod table;
 #[cfg(test)]

@@ -4,8 +4,8 @@ ghost use Rattle.std.specs.HashMap.{get};
 ghost use Rattle.news_types.specs.Names.{same};
 ghost use Rattle.news_types.specs.History.{History};
 ghost use Rattle.news_types.specs.Frames.{format};
-ghost use Rattle.products.specs.declared.table.KeptSubscriber.{KeptSubscriber};
-ghost use Rattle.products.specs.Keeps.{KeepsFacts};
+ghost use Rattle.news_types.specs.Products.{lag};
+ghost use Rattle.products.specs.Keeps.{KeepsFacts, terms_of};
 
 use news_types::{Format, How, Memory, Name, Names};
 use std::alloc::Global;
@@ -25,6 +25,14 @@ pub(crate) struct KeptSubscriber {
     pub(crate) active: bool,
     pub(crate) products: Names,
     pub(crate) off: Names,
+    pub(crate) lag: u32,
+}
+
+/// The format of a subscriber, which never changes, and its lag.
+#[derive(Clone, Copy)]
+pub(crate) struct Terms {
+    pub(crate) format: Format,
+    pub(crate) lag: u32,
 }
 
 /// Products and subscribers.
@@ -72,15 +80,32 @@ impl Products {
     pub fn format(&self, subscriber: &Name) -> Option<Format>
         ensures { (h : History) → KeepsFacts self.now h → result ≡ format h subscriber.now }
     {
-        self.kept_format(subscriber)
+        match self.kept_terms(subscriber) {
+            Some(terms) => Some(terms.format),
+            None => None,
+        }
     }
 
-    /// The format that is kept of the subscriber.
-    pub(crate) fn kept_format(&self, subscriber: &Name) -> Option<Format>
-        ensures { result ≡ option_map (λ (s : KeptSubscriber). s.format) (get same self.now.subscribers subscriber.now) }
+    /// By how many seconds the subscriber gets later what is published; 0 for one that is not there. It takes no
+    /// memory.
+    pub fn lag(&self, subscriber: &Name) -> u32
+        ensures { (h : History) → KeepsFacts self.now h → result ≡ lag h subscriber.now }
+    {
+        match self.kept_terms(subscriber) {
+            Some(terms) => terms.lag,
+            None => 0,
+        }
+    }
+
+    /// What is kept of the subscriber beside what a setting gives.
+    pub(crate) fn kept_terms(&self, subscriber: &Name) -> Option<Terms>
+        ensures { result ≡ option_map terms_of (get same self.now.subscribers subscriber.now) }
     {
         match self.subscribers.get(subscriber) {
-            Some(kept) => Some(kept.format),
+            Some(kept) => Some(Terms {
+                format: kept.format,
+                lag: kept.lag,
+            }),
             None => None,
         }
     }

@@ -60,12 +60,14 @@ fn command(rt: &impl Abort, alloc: Global, row: &Row) -> Result<Command, Memory>
             subscriber: name(rt, subscriber),
             format: *format,
             products: names(rt, alloc, products)?,
+            lag: 0,
         },
         Row::SetSubscriber(subscriber, active, products, off) => Command::SetSubscriber {
             subscriber: name(rt, subscriber),
             active: *active,
             products: names(rt, alloc, products)?,
             off: names(rt, alloc, off)?,
+            lag: None,
         },
     })
 }
@@ -171,6 +173,7 @@ fn story(alloc: Global, urgency: u8) -> Result<Story, Memory> {
         category: Text::copy_of(alloc, "")?,
         body: Text::copy_of(alloc, "")?,
         html: false,
+        copyright: Text::copy_of(alloc, "")?,
     })
 }
 

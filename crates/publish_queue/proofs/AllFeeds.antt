@@ -2,37 +2,39 @@
 use Rattle.std.proofs.Common.{◌≡◌, ℕ, zero, suc, ◌+◌, ◌-◌, ◌<◌, ◌≤◌, Bool, true, false, cond, ◌||◌, ◌&&◌, ◌==◌, List, [], ◌∷◌, length, map, get_or, take, drop, slice_get, refl, sym, ap, ◌∙◌, arith, Result, Ok, Err, OnOk, Option, Some, None, vec_capacity, ◌⊎◌, inl, inr}
 use mathlib.Core.Bool.{true≢false}
 use Rattle.std.specs.Option.{option_map}
-use Rattle.std.specs.List.{All, list_any, filter, insert}
+use Rattle.std.specs.List.{All, list_any, insert}
 use Rattle.std.proofs.lemmas.Bool.{cases_eq}
 use Rattle.std.proofs.lemmas.List.{length-map}
 use Rattle.std.proofs.lemmas.List.Elements.{All-append, All-take, All-drop, All-cons}
 use Rattle.std.specs.Cmp.Lexicographic.{nat_list_eq_equiv}
+use Rattle.news_types.specs.declared.query.Due.{Due}
 use Rattle.news_types.specs.Names.{Bytes, same, is_in}
-use Rattle.news_types.specs.Publications.{Pub}
+use Rattle.news_types.specs.Due.{Pub, release_to, is_due}
 use Rattle.news_types.specs.Frames.{numbered}
-use Rattle.news_types.specs.Feeds.{is_due, is_out}
+use Rattle.news_types.specs.Feeds.{Dispatch, due_to, feed_of}
 use Rattle.std.specs.Prelude.{nat_lt, IsTrue}
 use Rattle.std.proofs.lemmas.Bool.Decides.{nat_tests}
 use Rattle.news_types.specs.Delivery.{ready_from, retry_delay, is_by}
+use Rattle.news_types.specs.Legal.{is_coming}
 use Rattle.news_types.proofs.Members.{same_is, same_self}
-use Rattle.news_types.proofs.Feeds.{due_to_more}
-use Rattle.publish_queue.specs.declared.waiting.Release.{Release}
+use Rattle.news_types.proofs.Dues.{release_from}
 use Rattle.publish_queue.specs.declared.feed.Delivery.{Delivery}
 use Rattle.publish_queue.specs.declared.feed.Feed.{Feed}
 use Rattle.publish_queue.specs.declared.turns.Turns.{Turns}
 use Rattle.publish_queue.specs.Ready.{row_turn}
 use Rattle.publish_queue.specs.Steps.{SameDelivery, IsEmptyFeed, IsAdded, IsWithdrawn}
 use Rattle.publish_queue.specs.Turns.{one}
-use Rattle.publish_queue.specs.Many.{Sets, EachGoes, Spread, IsSame, IsAddedTo, IsAdvancedTo, IsDeliveredTo, IsOrdered, turn_in, turn_count, name_of}
-use Rattle.publish_queue.specs.Keeps.{IsRow, Stands, IsFeed, IsSetTo, IsUntouched, NumbersFall, release_of, number_of, by_number, all_waiting}
+use Rattle.publish_queue.specs.Many.{Sets, EachGoes, OneGoes, Spread, IsSame, IsAddedTo, IsAdvancedTo, IsDeliveredTo, IsOrdered, turn_in, turn_count, name_of, release_by}
+use Rattle.publish_queue.specs.Keeps.{IsRow, Stands, IsFeed, IsSetTo, IsUntouched, IsFair, number_of}
 use Rattle.publish_queue.proofs.Ascending as ascending
 use Rattle.publish_queue.proofs.ByName.{names_order}
 use Rattle.publish_queue.proofs.Entries.{get_map}
-use Rattle.publish_queue.proofs.Many.{Found, name_at, names_by, here_named, other_named}
+use Rattle.publish_queue.proofs.Many.{Found, name_at, here_named, other_named}
 use Rattle.publish_queue.proofs.InTurn.{holds_same}
-use Rattle.publish_queue.proofs.OneFeed.{is_row_alike, is_row_still, is_row_advanced, is_row_passed, is_row_added, rising_waiting, due_passed, feed_stays}
-use Rattle.publish_queue.proofs.Turning.{turn_is, numbers_ascend}
-use Rattle.publish_queue.proofs.Withdrawal.{is_other, AllWait, is_row_withdrawn, feed_without}
+use Rattle.publish_queue.proofs.OneFeed.{is_row_alike, is_row_still, is_row_advanced, is_row_added, rising_waiting, due_passed, feed_stays}
+use Rattle.publish_queue.proofs.Comings.{HasWaiting, feed_still}
+use Rattle.publish_queue.proofs.Turning.{turn_is}
+use Rattle.publish_queue.proofs.Withdrawal.{Leaves, feed_left, is_row_withdrawn}
 
 pub on_ok : {T E : Type 0} {P Q : Type 0} (r : Result T E) → OnOk r P → (P → Q) → OnOk r Q
 on_ok (Ok x) p f = f p
@@ -98,7 +100,10 @@ module _ {acked tries tried : Bytes → ℕ} where
   -- the feed of a subscriber to whom nothing was due
   pub is_first_feed : (ps : List Pub) (m : ℕ) (s : Bytes) (f : Feed) → IsUntouched ps acked tries tried s → IsEmptyFeed s f → IsFeed ps m acked tries tried f
   is_first_feed ps m s f none is = record {
-    rows = record { row = rw (is.name, none.due) is.row; waiting = rw (is.name, none.due) is.waiting };
+    rows = record {
+      row = record { numbers = rw (is.name, none.due) is.row.numbers; releases = rw (is.name, none.due) is.row.releases };
+      waiting = rw (is.name, none.due) is.waiting;
+    };
     stands = record {
       receipt = rw (is.name, none.receipt) is.acked;
       attempts = rw (is.name, none.attempts) is.tries;
@@ -114,63 +119,78 @@ module _ {acked tries tried : Bytes → ℕ} where
     turn = rw step.alike.delivery.name (step.turn ∙ is.turn);
   }
 
-  pub is_feed_still : (ps : List Pub) (m n : ℕ) (f : Feed) → m ≤ n → list_any (is_out n) (all_waiting ps m) ≡ false → IsFeed ps m acked tries tried f → IsFeed ps n acked tries tried f
-  is_feed_still ps m n f le none is = record {
-    rows = is_row_still ps m n f le none is.rows;
-    stands = is.stands;
-    turn = rw (feed_stays ps m n f.name le none) is.turn;
-  }
+  pub is_feed_still : (ps : List Pub) (m n : ℕ) (f : Feed) → m ≤ n → list_any (is_coming m n) ps ≡ false → IsFeed ps m acked tries tried f → IsFeed ps n acked tries tried f
+  is_feed_still ps m n f le none is =
+      let still = feed_still m n f.name ps none in
+      record {
+        rows = is_row_still ps m n f le still is.rows;
+        stands = is.stands;
+        turn = rw (feed_stays ps m n f.name le still) is.turn;
+      }
 
-  pub is_feed_advanced : (ps : List Pub) (m n : ℕ) (rs : List Release) (f g : Feed) → m ≤ n → NumbersFall ps → rs ≡ by_number ps → IsFeed ps m acked tries tried f → IsAdvancedTo rs n f g → IsFeed ps n acked tries tried g
-  is_feed_advanced ps m n rs f g le falls by_numbers is step =
+  pub is_feed_advanced : (ps : List Pub) (m n : ℕ) (f g : Feed) → m ≤ n → IsFeed ps m acked tries tried f → IsAdvancedTo n f g → IsFeed ps n acked tries tried g
+  is_feed_advanced ps m n f g le is step =
       let rows : IsRow ps n g = is_row_advanced ps m n f g le is.rows step.advanced in
       let stands : Stands acked tries tried g = stands_same acked tries tried f g step.advanced.delivery is.stands in
-      let before : f.turn ≡ row_turn rs f = is.turn ∙ sym (rw by_numbers (turn_is ps m acked tries tried f falls is.rows is.stands)) in
+      let before : f.turn ≡ row_turn f = is.turn ∙ sym (turn_is ps m acked tries tried f is.rows is.stands) in
       record {
         rows = rows;
         stands = stands;
-        turn = step.turn (rw by_numbers (numbers_ascend ps falls)) before ∙ rw by_numbers (turn_is ps n acked tries tried g falls rows stands);
+        turn = step.turn before ∙ turn_is ps n acked tries tried g rows stands;
       }
 
-  pub is_feed_withdrawn : (n m : ℕ) (ps : List Pub) (f g : Feed) → AllWait n m ps → IsFeed ps m acked tries tried f → IsWithdrawn n f g → IsFeed (filter (is_other n) ps) m acked tries tried g
-  is_feed_withdrawn n m ps f g wait is step = record {
-    rows = is_row_withdrawn n m ps f g wait is.rows step;
-    stands = stands_same acked tries tried f g step.delivery is.stands;
-    turn = rw (step.delivery.name, feed_without n m f.name ps wait) (step.turn ∙ is.turn);
-  }
+  -- some of what waits is left
+  pub is_feed_withdrawn : (m : ℕ) (numbers : List ℕ) (ps qs : List Pub) (f g : Feed) → Leaves m numbers f.name ps qs → IsFeed ps m acked tries tried f → IsWithdrawn numbers f g → IsFeed qs m acked tries tried g
+  is_feed_withdrawn m numbers ps qs f g leaves is step =
+      let stands : Stands acked tries tried g = stands_same acked tries tried f g step.delivery is.stands in
+      record {
+        rows = is_row_withdrawn m numbers ps qs f g leaves is.rows step;
+        stands = stands;
+        turn = step.turn ∙ is.turn ∙ ap (λ l. ready_from (slice_get l (acked f.name)) (tries f.name) (tried f.name)) (sym (feed_left m numbers f.name ps qs leaves))
+            ∙ ap (λ s. ready_from (slice_get (feed_of qs m s) (acked s)) (tries s) (tried s)) (sym step.delivery.name);
+      }
 
-  is_feed_passed : (ps : List Pub) (m : ℕ) (p : Pub) (f : Feed) → is_due f.name p ≡ false → IsFeed ps m acked tries tried f → IsFeed (p ∷ ps) m acked tries tried f
-  is_feed_passed ps m p f apart is = record {
-    rows = is_row_passed ps m p f apart is.rows;
+  -- nothing that is due to it is another
+  pub is_feed_kept : (m : ℕ) (ps qs : List Pub) (f : Feed) → due_to f.name qs ≡ due_to f.name ps → IsFeed ps m acked tries tried f → IsFeed qs m acked tries tried f
+  is_feed_kept m ps qs f alike is = record {
+    rows = record {
+      row = record { numbers = rw alike is.rows.row.numbers; releases = rw alike is.rows.row.releases };
+      waiting = rw alike is.rows.waiting;
+    };
     stands = is.stands;
-    turn = rw (due_passed f.name p ps apart) is.turn;
+    turn = rw alike is.turn;
   }
 
-  is_feed_added : (ps : List Pub) (m : ℕ) (p : Pub) (rs : List Release) (f g : Feed) → m ≤ p.release → is_due f.name p ≡ true → NumbersFall (p ∷ ps) → rs ≡ by_number (p ∷ ps)
-      → IsFeed ps m acked tries tried f → IsAddedTo rs (release_of p) m f g → IsFeed (p ∷ ps) m acked tries tried g
-  is_feed_added ps m p rs f g le due falls by_numbers is step =
-      let added : IsAdded (release_of p) m f g = step.added (rising_waiting ps m f is.rows) in
-      let rows : IsRow (p ∷ ps) m g = is_row_added ps m p f g le due is.rows added in
+  is_feed_added : (ps : List Pub) (m : ℕ) (p : Pub) (r : ℕ) (f g : Feed) → m ≤ r → release_to f.name p.due ≡ Some r → IsFeed ps m acked tries tried f → IsAddedTo p.number m r f g → IsFeed (p ∷ ps) m acked tries tried g
+  is_feed_added ps m p r f g le due is step =
+      let added : IsAdded (release_by p.number r) m f g = step.added (rising_waiting ps m f is.rows) in
+      let rows : IsRow (p ∷ ps) m g = is_row_added ps m p r f g le due is.rows added in
       let stands : Stands acked tries tried g = stands_same acked tries tried f g added.delivery is.stands in
       record {
         rows = rows;
         stands = stands;
-        turn = step.turn (rw by_numbers (numbers_ascend (p ∷ ps) falls)) ∙ rw by_numbers (turn_is (p ∷ ps) m acked tries tried g falls rows stands);
+        turn = step.turn ∙ turn_is (p ∷ ps) m acked tries tried g rows stands;
       }
 
-  added_one : (ps : List Pub) (m : ℕ) (p : Pub) (rs : List Release) (due : List Bytes) (f g : Feed) → m ≤ p.release → NumbersFall (p ∷ ps) → rs ≡ by_number (p ∷ ps) → ((s : Bytes) → is_in s p.due ≡ is_in s due)
-      → IsFeed ps m acked tries tried f → (is_in f.name due ≡ true → IsAddedTo rs (release_of p) m f g) → (is_in f.name due ≡ false → g ≡ f)
-      → (b : Bool) → is_in f.name due ≡ b → IsFeed (p ∷ ps) m acked tries tried g
-  added_one ps m p rs due f g le falls by_numbers same_due is changed kept true e = is_feed_added ps m p rs f g le (same_due f.name ∙ e) falls by_numbers is (changed e)
-  added_one ps m p rs due f g le falls by_numbers same_due is changed kept false e = rw (kept e) (is_feed_passed ps m p f (same_due f.name ∙ e) is)
+  added_one : (ps : List Pub) (m : ℕ) (p : Pub) (due : List Due) (f g : Feed) → m ≤ p.release → IsFair p → ((s : Bytes) → release_to s p.due ≡ release_to s due)
+      → IsFeed ps m acked tries tried f → ((r : ℕ) → release_to f.name due ≡ Some r → IsAddedTo p.number m r f g) → (release_to f.name due ≡ None → g ≡ f)
+      → (o : Option ℕ) → release_to f.name due ≡ o → IsFeed (p ∷ ps) m acked tries tried g
+  added_one ps m p due f g le fair alike is changed kept None e = rw (kept e) (is_feed_kept m ps (p ∷ ps) f (due_passed f.name p ps (alike f.name ∙ e)) is)
+  added_one ps m p due f g le fair alike is changed kept (Some r) e =
+      let here : release_to f.name p.due ≡ Some r = alike f.name ∙ e in
+      let from : p.release ≤ r = release_from p.release f.name p.due r fair.from here in
+      is_feed_added ps m p r f g (omega (arith, le, from)) here is (changed r e)
 
   -- one more publication
-  pub feeds_added : (ps : List Pub) (m : ℕ) (p : Pub) (rs : List Release) (due : List Bytes) (olds news : List Feed)
-      → Spread (IsAddedTo rs (release_of p) m) due olds news → m ≤ p.release → NumbersFall (p ∷ ps) → rs ≡ by_number (p ∷ ps) → ((s : Bytes) → is_in s p.due ≡ is_in s due)
+  pub feeds_added : (ps : List Pub) (m : ℕ) (p : Pub) (due : List Due) (olds news : List Feed)
+      → Spread (IsAddedTo p.number m) due olds news → m ≤ p.release → IsFair p → ((s : Bytes) → release_to s p.due ≡ release_to s due)
       → All (IsFeed ps m acked tries tried) olds → All (IsFeed (p ∷ ps) m acked tries tried) news
-  feeds_added ps m p rs due olds news spread le falls by_numbers same_due all k d lt =
+  feeds_added ps m p due olds news spread le fair alike all k d lt =
       let within : k < length olds = omega (arith, spread.long, lt) in
-      added_one ps m p rs due (get_or olds k d) (get_or news k d) le falls by_numbers same_due (all k d within) (spread.changed k d within) (spread.kept k d within) (is_in (name_of (get_or olds k d)) due) refl
+      added_one ps m p due (get_or olds k d) (get_or news k d) le fair alike (all k d within) (λ r. spread.changed k d r within) (spread.kept k d within) (release_to (name_of (get_or olds k d)) due) refl
+
+  pub have_waiting : (ps : List Pub) (m : ℕ) (fs : List Feed) → All (IsFeed ps m acked tries tried) fs → All (HasWaiting ps m) fs
+  have_waiting ps m fs all k d lt = (all k d lt).rows.waiting
 
   -- the feed that a search found
   pub feed_at : (ps : List Pub) (m : ℕ) (names : List Bytes) (fs : List Feed) (i : ℕ) (s : Bytes) (d : Feed) → map name_of fs ≡ names → (i < length names) × ((e : Bytes) → get_or names i e ≡ s)
@@ -187,34 +207,49 @@ feeds_go R P Q olds news goes each all k d lt =
     let within : k < length olds = omega (arith, goes.long, lt) in
     each (get_or olds k d) (get_or news k d) (all k d within) (goes.each k d within)
 
--- the subscribers are those who they were
-pub names_added : (rs : List Release) (r : Release) (m : ℕ) (due : List Bytes) (olds news : List Feed) → Spread (IsAddedTo rs r m) due olds news → map name_of news ≡ map name_of olds
-names_added rs r m due olds news spread = names_by olds news spread.long (λ k d lt. by (get_or olds k d) (get_or news k d) (spread.changed k d lt) (spread.kept k d lt) (is_in (name_of (get_or olds k d)) due) refl)
+-- the feed at a place goes another way than the others
+pub feeds_set : (R : Feed → Feed → Type 0) (P Q : Feed → Type 0) (names : List Bytes) (olds news : List Feed) (i : ℕ) (s : Bytes) → Found names olds i s → Sets R i olds news
+    → ((f g : Feed) → name_of f ≡ s → P f → R f g → Q g) → ((f : Feed) → same (name_of f) s ≡ false → P f → Q f) → All P olds → All Q news
+feeds_set R P Q names olds news i s found sets here there all k d lt = by (cases_eq k i)
   where
-    by : (f g : Feed) → (is_in f.name due ≡ true → IsAddedTo rs r m f g) → (is_in f.name due ≡ false → g ≡ f) → (b : Bool) → is_in f.name due ≡ b → name_of g ≡ name_of f
-    by f g changed kept true e = (changed e).name
-    by f g changed kept false e = ap name_of (kept e)
+    within : k < length olds
+    within = omega (arith, sets.long, lt)
+
+    by : (k ≡ i) ⊎ (k ≡ i → ⊥) → Q (get_or news k d)
+    by (inl is) = rw is (here (get_or olds i d) (get_or news i d) (here_named names olds i s d found) (all i d found.within) (sets.here d))
+    by (inr other) = rw (sets.there k d other) (there (get_or olds k d) (other_named names olds i k s d found within other) (all k d within))
+
+pub feeds_one : (R : Feed → Feed → Type 0) (P Q : Feed → Type 0) (s : Bytes) (olds news : List Feed) → OneGoes R s olds news
+    → ((f g : Feed) → same f.name s ≡ true → P f → R f g → Q g) → ((f : Feed) → same f.name s ≡ false → P f → Q f) → All P olds → All Q news
+feeds_one R P Q s olds news goes here there all k d lt = by (same (name_of (get_or olds k d)) s) refl
+  where
+    within : k < length olds
+    within = omega (arith, goes.long, lt)
+
+    by : (b : Bool) → same (name_of (get_or olds k d)) s ≡ b → Q (get_or news k d)
+    by true is = here (get_or olds k d) (get_or news k d) is (all k d within) (goes.changed k d within is)
+    by false is = rw (goes.kept k d within is) (there (get_or olds k d) is (all k d within))
 
 -- ---- others
 
-pub still_untouched : (ps : List Pub) (p : Pub) (acked tries tried : Bytes → ℕ) (s : Bytes) → is_due s p ≡ false → IsUntouched ps acked tries tried s → IsUntouched (p ∷ ps) acked tries tried s
+pub still_untouched : (ps : List Pub) (p : Pub) (acked tries tried : Bytes → ℕ) (s : Bytes) → release_to s p.due ≡ None → IsUntouched ps acked tries tried s → IsUntouched (p ∷ ps) acked tries tried s
 still_untouched ps p acked tries tried s none is = record {
-  due = due_to_more s p ps ∙ rw none is.due;
+  due = due_passed s p ps none ∙ is.due;
   receipt = is.receipt;
   attempts = is.attempts;
   last = is.last;
 }
 
 -- whom the publication is not due to
-pub apart_from : (s : Bytes) (p : Pub) (due names : List Bytes) → ((t : Bytes) → is_in t p.due ≡ is_in t due) → ((t : Bytes) → is_in t due ≡ true → is_in t names ≡ true) → is_in s names ≡ false → is_due s p ≡ false
-apart_from s p due names same_due there none = same_due s ∙ by (is_in s due) refl
+pub apart_from : (s : Bytes) (p : Pub) (names : List Bytes) → ((t : Bytes) → is_due t p ≡ true → is_in t names ≡ true) → is_in s names ≡ false → release_to s p.due ≡ None
+apart_from s p names there none = by (release_to s p.due) refl
   where
-    by : (b : Bool) → is_in s due ≡ b → b ≡ false
-    by true e = absurd (true≢false (sym (there s e) ∙ none))
-    by false e = refl
+    by : (o : Option ℕ) → release_to s p.due ≡ o → o ≡ None
+    by None e = refl
+    by (Some r) e = absurd (true≢false (sym (there s (rw e refl)) ∙ none))
 
 -- entries are counted from 1
-pub entry_at : (ps : List Pub) (k i : ℕ) → 1 ≤ k → i ≡ k - 1 → slice_get (map number_of ps) i ≡ option_map number_of (numbered ps k)
+pub entry_at : (ps : List Dispatch) (k i : ℕ) → 1 ≤ k → i ≡ k - 1 → slice_get (map number_of ps) i ≡ option_map number_of (numbered ps k)
 entry_at ps zero i le is = absurd (omega (arith, le))
 entry_at ps (suc k) i le is = let e : i ≡ k = omega (arith, is) in rw e (get_map number_of ps k)
 
@@ -226,19 +261,17 @@ set_here s t n before after is e = is t ∙ rw (e, same_self s) refl
 set_there : (s t : Bytes) (n : ℕ) (before after : Bytes → ℕ) → IsSetTo s n before after → same t s ≡ false → after t ≡ before t
 set_there s t n before after is other = is t ∙ rw (nat_list_eq_equiv.symm s t ∙ other) refl
 
-pub feeds_delivered : (ps : List Pub) (m : ℕ) (rs : List Release) (names : List Bytes) (olds news : List Feed) (i : ℕ) (s : Bytes) (delivery : Delivery) (acked tries tried acked_then tries_then tried_then : Bytes → ℕ)
-    → Found names olds i s → NumbersFall ps → rs ≡ by_number ps → IsSetTo s delivery.acked acked acked_then → IsSetTo s delivery.tries tries tries_then → IsSetTo s delivery.tried tried tried_then
-    → Sets (IsDeliveredTo rs delivery) i olds news → All (IsFeed ps m acked tries tried) olds → All (IsFeed ps m acked_then tries_then tried_then) news
-feeds_delivered ps m rs names olds news i s delivery acked tries tried acked_then tries_then tried_then found falls by_numbers a t l sets all k d lt = by (cases_eq k i)
+pub feeds_delivered : (ps : List Pub) (m : ℕ) (names : List Bytes) (olds news : List Feed) (i : ℕ) (s : Bytes) (delivery : Delivery) (acked tries tried acked_then tries_then tried_then : Bytes → ℕ)
+    → Found names olds i s → IsSetTo s delivery.acked acked acked_then → IsSetTo s delivery.tries tries tries_then → IsSetTo s delivery.tried tried tried_then
+    → Sets (IsDeliveredTo delivery) i olds news → All (IsFeed ps m acked tries tried) olds → All (IsFeed ps m acked_then tries_then tried_then) news
+feeds_delivered ps m names olds news i s delivery acked tries tried acked_then tries_then tried_then found a t l sets all =
+    feeds_set (IsDeliveredTo delivery) (IsFeed ps m acked tries tried) (IsFeed ps m acked_then tries_then tried_then) names olds news i s found sets here there all
   where
-    within : k < length olds
-    within = omega (arith, sets.long, lt)
-
-    here : (f g : Feed) → name_of f ≡ s → IsFeed ps m acked tries tried f → IsDeliveredTo rs delivery f g → IsFeed ps m acked_then tries_then tried_then g
+    here : (f g : Feed) → name_of f ≡ s → IsFeed ps m acked tries tried f → IsDeliveredTo delivery f g → IsFeed ps m acked_then tries_then tried_then g
     here f g name is step =
         let name_is : name_of g ≡ s = step.delivered.name ∙ name in
         let rows : IsRow ps m g = record {
-          row = rw step.delivered.name (step.delivered.row ∙ is.rows.row);
+          row = record { numbers = rw step.delivered.name (step.delivered.row.numbers ∙ is.rows.row.numbers); releases = rw step.delivered.name (step.delivered.row.releases ∙ is.rows.row.releases) };
           waiting = rw step.delivered.name (step.delivered.waiting ∙ is.rows.waiting);
         } in
         let stands : Stands acked_then tries_then tried_then g = record {
@@ -249,7 +282,7 @@ feeds_delivered ps m rs names olds news i s delivery acked tries tried acked_the
         record {
           rows = rows;
           stands = stands;
-          turn = step.turn (rw by_numbers (numbers_ascend ps falls)) ∙ rw by_numbers (turn_is ps m acked_then tries_then tried_then g falls rows stands);
+          turn = step.turn ∙ turn_is ps m acked_then tries_then tried_then g rows stands;
         }
 
     there : (f : Feed) → same (name_of f) s ≡ false → IsFeed ps m acked tries tried f → IsFeed ps m acked_then tries_then tried_then f
@@ -262,10 +295,6 @@ feeds_delivered ps m rs names olds news i s delivery acked tries tried acked_the
           stands = record { receipt = rw acked_is is.stands.receipt; attempts = rw tries_are is.stands.attempts; last = rw tried_is is.stands.last };
           turn = rw (acked_is, tries_are, tried_is) is.turn;
         }
-
-    by : (k ≡ i) ⊎ (k ≡ i → ⊥) → IsFeed ps m acked_then tries_then tried_then (get_or news k d)
-    by (inl is) = rw is (here (get_or olds i d) (get_or news i d) (here_named names olds i s d found) (all i d found.within) (sets.here d))
-    by (inr other) = rw (sets.there k d other) (there (get_or olds k d) (other_named names olds i k s d found within other) (all k d within))
 
 -- the others are as they were
 pub untouched_then : (ps : List Pub) (acked tries tried acked_then tries_then tried_then : Bytes → ℕ) (s t : Bytes) (a b c : ℕ) → same t s ≡ false
@@ -310,7 +339,7 @@ set_if s before test is t = by (same s t) refl
     by false e = refl
 
 -- a feed that is ready is behind few attempts
-pub few_tries : (o : Option Pub) (n last m : ℕ) → IsTrue (is_by m (ready_from o n last)) → n < 10
+pub few_tries : (o : Option Dispatch) (n last m : ℕ) → IsTrue (is_by m (ready_from o n last)) → n < 10
 few_tries None n last m ready = absurd (true≢false (sym ready))
 few_tries (Some p) n last m ready = by (n == 0) refl (nat_lt n 10) refl ready
   where
@@ -320,7 +349,7 @@ few_tries (Some p) n last m ready = by (n == 0) refl (nat_lt n 10) refl ready
     by false e false f r = absurd (true≢false (sym r))
 
 -- a feed that may be pushed goes on with an entry
-pub has_entry : (feed : List Pub) (a n last k : ℕ) → ready_from (slice_get feed a) n last ≡ Some k → a < length feed
+pub has_entry : (feed : List Dispatch) (a n last k : ℕ) → ready_from (slice_get feed a) n last ≡ Some k → a < length feed
 has_entry [] a n last k is = cc
 has_entry (p ∷ ps) zero n last k is = omega arith
 has_entry (p ∷ ps) (suc a) n last k is = let rest = has_entry ps a n last k is in omega (arith, rest)

@@ -13,20 +13,21 @@ use Rattle.std.proofs.lemmas.Bool.Decides.{nat_tests, Decides-eqb}
 use Rattle.std.proofs.lemmas.List.{length-map}
 use Rattle.std.proofs.lemmas.List.Elements.{All-head, All-tail}
 use Rattle.news_types.specs.Names.{Bytes, same, is_in}
-use Rattle.news_types.specs.Publications.{Pub}
-use Rattle.news_types.specs.Feeds.{feed_of, waiting_of}
+use Rattle.news_types.specs.Due.{Pub}
+use Rattle.news_types.specs.Feeds.{Dispatch, feed_of, waiting_of}
 use Rattle.news_types.specs.Delivery.{Candidate, candidate, comes_first, earlier, earliest, is_by, pauses, first_release, or_else}
 use Rattle.news_types.proofs.Members.{same_is, same_self, some_is}
-use Rattle.publish_queue.specs.declared.waiting.Release.{Release}
 use Rattle.publish_queue.specs.declared.feed.Feed.{Feed}
 use Rattle.publish_queue.specs.declared.queue.Queue.{Queue}
 use Rattle.publish_queue.specs.declared.turns.Turn.{Turn}
 use Rattle.publish_queue.specs.Order.{AllBehind, AscendsBy}
 use Rattle.publish_queue.specs.Ready.{later_by}
+use Rattle.publish_queue.specs.Rows.{next_in}
+use Rattle.publish_queue.specs.Coming.{sooner}
 use Rattle.publish_queue.specs.Turns.{by_turn, same_turn, has, is_at}
 use Rattle.publish_queue.specs.Many.{turn_in, name_of}
 use Rattle.publish_queue.specs.Keeps.{Keeps, IsFeed, IsUntouched, turn_of, release_of, number_of}
-use Rattle.publish_queue.specs.Choice.{ready_candidate_of, later_moment_of, moment_of_candidate, first_among, candidate_at, sooner, soonest}
+use Rattle.publish_queue.specs.Choice.{ready_candidate_of, later_moment_of, moment_of_candidate, first_among, candidate_at, soonest}
 use Rattle.publish_queue.proofs.TurnOrder.{turns_order}
 
 -- ---- the least moment of some
@@ -62,14 +63,14 @@ sooner_none (Some a) = refl
 
 -- ---- a feed that may be ready later
 
-pauses_is : (feed : List Pub) (a n : ℕ) → pauses (slice_get feed a) n ≡ (nat_lt a (length feed) && n == 10)
+pauses_is : (feed : List Dispatch) (a n : ℕ) → pauses (slice_get feed a) n ≡ (nat_lt a (length feed) && n == 10)
 pauses_is [] a n = let b : nat_lt a 0 ≡ false = grind (arith, nat_tests) in rw b refl
 pauses_is (p ∷ ps) zero n = let b : nat_lt 0 (suc (length ps)) ≡ true = grind (arith, nat_tests) in rw b refl
 pauses_is (p ∷ ps) (suc a) n = let b : nat_lt (suc a) (suc (length ps)) ≡ nat_lt a (length ps) = grind (arith, nat_tests) in rw b (pauses_is ps a n)
 
-first_is : (waits : List Pub) → option_map (λ (r : Release). r.moment) (slice_get (map release_of waits) 0) ≡ first_release waits
+first_is : (waits : List Dispatch) → next_in (map release_of waits) ≡ first_release waits
 first_is [] = refl
-first_is (p ∷ ps) = refl
+first_is (d ∷ ds) = refl
 
 mapped_back : (s : Bytes) (o : Option ℕ) → option_map moment_of_candidate (option_map (candidate s) o) ≡ o
 mapped_back s None = refl
@@ -78,12 +79,12 @@ mapped_back s (Some n) = refl
 pub later_is : (names : List Bytes) (ps : List Pub) (m : ℕ) (acked tries tried : Bytes → ℕ) (s : Bytes) (f : Feed) → is_in s names ≡ true → name_of f ≡ s → IsFeed ps m acked tries tried f
     → later_by f ≡ later_moment_of names ps m acked tries tried s
 later_is names ps m acked tries tried s f there name is =
-    let long : length f.row.items ≡ length (feed_of ps m s) = ap length is.rows.row ∙ length-map (feed_of ps m f.name) number_of ∙ ap (λ t. length (feed_of ps m t)) name in
+    let long : length f.row.numbers.items ≡ length (feed_of ps m s) = ap length is.rows.row.numbers ∙ length-map (feed_of ps m f.name) number_of ∙ ap (λ t. length (feed_of ps m t)) name in
     let acked_is : f.delivery.acked ≡ acked s = is.stands.receipt ∙ ap acked name in
     let tries_are : f.delivery.tries ≡ tries s = is.stands.attempts ∙ ap tries name in
     let turn : f.turn ≡ turn_of ps m acked tries tried s = is.turn ∙ ap (turn_of ps m acked tries tried) name in
-    let waits : option_map (λ (r : Release). r.moment) (slice_get f.waiting.releases.items 0) ≡ first_release (waiting_of ps m s) =
-    ap (λ rs. option_map (λ (r : Release). r.moment) (slice_get rs 0)) is.rows.waiting ∙ first_is (waiting_of ps m f.name) ∙ ap (λ t. first_release (waiting_of ps m t)) name in
+    let waits : next_in f.waiting.releases.items ≡ first_release (waiting_of ps m s) =
+    ap next_in is.rows.waiting ∙ first_is (waiting_of ps m f.name) ∙ ap (λ t. first_release (waiting_of ps m t)) name in
     rw (there, pauses_is (feed_of ps m s) (acked s) (tries s), long, acked_is, tries_are, turn, waits) (by (nat_lt (acked s) (length (feed_of ps m s)) && tries s == 10))
   where
     by : (b : Bool) → cond b None (or_else (turn_of ps m acked tries tried s) (first_release (waiting_of ps m s))) ≡ option_map moment_of_candidate (cond (not b) (option_map (candidate s) (or_else (turn_of ps m acked tries tried s) (first_release (waiting_of ps m s)))) None)

@@ -15,7 +15,7 @@ use Rattle.publish_queue.specs.declared.turns.Turns.{Turns}
 use Rattle.publish_queue.specs.Order.{AllBehind, Ascends}
 use Rattle.publish_queue.specs.Turns.{HoldsTurns, is_at, one}
 use Rattle.publish_queue.specs.Ready.{row_turn}
-use Rattle.publish_queue.specs.Rows.{FirstIsLater, moved, left}
+use Rattle.publish_queue.specs.Rows.{FirstIsLater, moved, left, number_in, moment_in}
 use Rattle.publish_queue.specs.Steps.{IsAlike, IsAdded, IsAdvanced, IsDelivered}
 use Rattle.publish_queue.specs.Many.{turn_in, turn_count, name_of, IsOrdered, IsSettled}
 use Rattle.publish_queue.proofs.Ascending.{less_not}
@@ -163,28 +163,28 @@ ordered_each olds news turns long names same_turns o = record {
 
 -- ---- steps of one feed
 
-pub row_turn_alike : (releases : List Release) (f g : Feed) → IsAlike f g → row_turn releases g ≡ row_turn releases f
-row_turn_alike releases f g a = rw (a.row, a.delivery.delivery) refl
+pub row_turn_alike : (f g : Feed) → IsAlike f g → row_turn g ≡ row_turn f
+row_turn_alike f g a = rw (a.row.releases, a.delivery.delivery) refl
 
 pub added_alike : (r : Release) (m : ℕ) (f g h : Feed) → IsAdded r m f g → IsAlike g h → IsAdded r m f h
 added_alike r m f g h a b = record {
   delivery = record { name = b.delivery.name ∙ a.delivery.name; delivery = b.delivery.delivery ∙ a.delivery.delivery };
-  out = λ le. (b.row ∙ (a.out le).0, b.waiting ∙ (a.out le).1);
-  later = λ lt. (b.row ∙ (a.later lt).0, b.waiting ∙ (a.later lt).1);
+  out = λ le. (record { numbers = b.row.numbers ∙ (a.out le).0.numbers; releases = b.row.releases ∙ (a.out le).0.releases }, b.waiting ∙ (a.out le).1);
+  later = λ lt. (record { numbers = b.row.numbers ∙ (a.later lt).0.numbers; releases = b.row.releases ∙ (a.later lt).0.releases }, b.waiting ∙ (a.later lt).1);
 }
 
-pub advanced_settled : (m : ℕ) (releases : List Release) (f g h : Feed) → IsAdvanced m f g → IsSettled releases g h → IsAdvanced m f h
-advanced_settled m releases f g h a b = record {
+pub advanced_settled : (m : ℕ) (f g h : Feed) → IsAdvanced m f g → IsSettled g h → IsAdvanced m f h
+advanced_settled m f g h a b = record {
   delivery = record { name = b.alike.delivery.name ∙ a.delivery.name; delivery = b.alike.delivery.delivery ∙ a.delivery.delivery };
-  row = b.alike.row ∙ a.row;
+  row = record { numbers = b.alike.row.numbers ∙ a.row.numbers; releases = b.alike.row.releases ∙ a.row.releases };
   waiting = b.alike.waiting ∙ a.waiting;
   fits = λ fits. b.fits (a.fits fits);
 }
 
-pub delivered_settled : (delivery : Delivery) (releases : List Release) (f g h : Feed) → IsDelivered delivery f g → IsSettled releases g h → IsDelivered delivery f h
-delivered_settled delivery releases f g h a b = record {
+pub delivered_settled : (delivery : Delivery) (f g h : Feed) → IsDelivered delivery f g → IsSettled g h → IsDelivered delivery f h
+delivered_settled delivery f g h a b = record {
   name = b.alike.delivery.name ∙ a.name;
-  row = b.alike.row ∙ a.row;
+  row = record { numbers = b.alike.row.numbers ∙ a.row.numbers; releases = b.alike.row.releases ∙ a.row.releases };
   waiting = b.alike.waiting ∙ a.waiting;
   stands = b.alike.delivery.delivery ∙ a.stands;
   fits = λ fits. b.fits (a.fits fits);
@@ -194,14 +194,17 @@ delivered_settled delivery releases f g h a b = record {
 pub advanced_none : (m : ℕ) (f : Feed) → FirstIsLater m f.waiting.releases.items → IsAdvanced m f f
 advanced_none m f later = record {
   delivery = record { name = refl; delivery = refl };
-  row = sym (moved_none m f.row.items f.waiting.releases.items later);
+  row = record {
+    numbers = sym (moved_none number_in m f.row.numbers.items f.waiting.releases.items later);
+    releases = sym (moved_none moment_in m f.row.releases.items f.waiting.releases.items later);
+  };
   waiting = sym (left_none m f.waiting.releases.items later);
   fits = λ fits. fits;
 }
   where
-    moved_none : (m : ℕ) (row : List ℕ) (rs : List Release) → FirstIsLater m rs → moved m row rs ≡ row
-    moved_none m row [] later = refl
-    moved_none m row (r ∷ rs) later = let b : nat_le r.moment m ≡ false = grind (arith, nat_tests) in rw b refl
+    moved_none : (of : Release → ℕ) (m : ℕ) (row : List ℕ) (rs : List Release) → FirstIsLater m rs → moved of m row rs ≡ row
+    moved_none of m row [] later = refl
+    moved_none of m row (r ∷ rs) later = let b : nat_le r.moment m ≡ false = grind (arith, nat_tests) in rw b refl
 
     left_none : (m : ℕ) (rs : List Release) → FirstIsLater m rs → left m rs ≡ rs
     left_none m [] later = refl

@@ -2,12 +2,14 @@ pub mod Putting
 pub mod Entries
 pub mod Ascending
 pub mod Order
-pub mod Moments
 pub mod ByName
-pub mod Many
 pub mod TurnOrder
-pub mod InTurn
+pub mod SomeOf
+pub mod Fair
 pub mod OneFeed
+pub mod Comings
+pub mod Many
+pub mod InTurn
 pub mod Turning
 pub mod Withdrawal
 pub mod AllFeeds

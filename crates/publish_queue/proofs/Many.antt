@@ -1,18 +1,21 @@
 -- Several feeds, before and after a call.
-use Rattle.std.proofs.Common.{◌≡◌, ℕ, zero, suc, ◌+◌, ◌<◌, ◌≤◌, Bool, true, false, ◌||◌, List, [], ◌∷◌, ◌++◌, length, map, get_or, set, take, refl, sym, ap, subst, ◌∙◌, arith, ◌⊎◌, inl, inr}
+use Rattle.std.proofs.Common.{◌≡◌, ℕ, zero, suc, ◌+◌, ◌<◌, ◌≤◌, Bool, true, false, ◌||◌, List, [], ◌∷◌, ◌++◌, length, map, get_or, set, take, Some, None, cond, refl, sym, ap, subst, ◌∙◌, arith, ◌⊎◌, inl, inr}
 use mathlib.Core.Bool.{true≢false}
 use Rattle.std.proofs.lemmas.Bool.{cases_lt, cases_eq}
 use Rattle.std.proofs.lemmas.List.{get_or-set_other, get_or-set_same, length-set, get_or_default, get_or-map, length-map, take_more}
 use Rattle.std.proofs.lemmas.List.Folds.{list_any-append}
 use Rattle.std.specs.List.{All, HoldsAt}
 use Rattle.std.specs.Cmp.Lexicographic.{nat_list_eq_equiv}
+use Rattle.news_types.specs.declared.query.Due.{Due}
 use Rattle.news_types.specs.Names.{Bytes, same, is_in}
-use Rattle.news_types.proofs.Members.{same_self, same_is}
+use Rattle.news_types.specs.Due.{release_to}
+use Rattle.news_types.proofs.Members.{same_self, same_is, some_is, none_some}
 use Rattle.publish_queue.specs.declared.feed.Feed.{Feed}
 use Rattle.publish_queue.specs.Order.{Ascends, Differ}
 use Rattle.publish_queue.specs.Steps.{SameDelivery, IsAlike, FitsOneMore}
-use Rattle.publish_queue.specs.Many.{Sets, EachGoes, Spread, IsRoomy, IsSame, name_of}
+use Rattle.publish_queue.specs.Many.{Sets, EachGoes, OneGoes, Spread, IsRoomy, IsSame, name_of, names_in, subscriber_in}
 use Rattle.publish_queue.proofs.ByName.{present, apart}
+use Rattle.publish_queue.proofs.Fair.{not_in}
 
 -- ---- one feed
 
@@ -45,7 +48,7 @@ pub same_delivery : (f : Feed) → SameDelivery f f
 same_delivery f = record { name = refl; delivery = refl }
 
 pub alike : (f : Feed) → IsAlike f f
-alike f = record { delivery = same_delivery f; row = refl; waiting = refl }
+alike f = record { delivery = same_delivery f; row = record { numbers = refl; releases = refl }; waiting = refl }
 
 pub alike_then : (f g h : Feed) → IsAlike f g → IsAlike g h → IsAlike f h
 alike_then f g h a b = record {
@@ -53,7 +56,7 @@ alike_then f g h a b = record {
     name = b.delivery.name ∙ a.delivery.name;
     delivery = b.delivery.delivery ∙ a.delivery.delivery;
   };
-  row = b.row ∙ a.row;
+  row = record { numbers = b.row.numbers ∙ a.row.numbers; releases = b.row.releases ∙ a.row.releases };
   waiting = b.waiting ∙ a.waiting;
 }
 
@@ -201,49 +204,119 @@ other_named names fs i k s d f lt other =
     ∙ ap (λ t. same (get_or (map name_of fs) k (name_of d)) t) (sym (name_at fs i d f.within))
     ∙ not_here (map name_of fs) i k (name_of d) up (omega (arith, long, f.within)) (omega (arith, long, lt)) other
 
-pub spread_none : (R : Feed → Feed → Type 0) (fs : List Feed) → Spread R [] fs fs
-spread_none R fs = record { long = refl; changed = λ k d lt e. absurd (true≢false (sym e)); kept = λ k d lt e. refl }
+-- one more to whom it is due
+pub due_more : (s : Bytes) (d : Due) (due : List Due) → release_to s (due ++ d ∷ []) ≡ cond (is_in s (names_in due)) (release_to s due) (release_to s (d ∷ []))
+due_more s d [] = refl
+due_more s d (e ∷ es) = by (same s e.subscriber) (due_more s d es)
+  where
+    by : (b : Bool) → release_to s (es ++ d ∷ []) ≡ cond (is_in s (names_in es)) (release_to s es) (release_to s (d ∷ []))
+        → cond b (Some e.release) (release_to s (es ++ d ∷ [])) ≡ cond (b || is_in s (names_in es)) (cond b (Some e.release) (release_to s es)) (release_to s (d ∷ []))
+    by true rest = refl
+    by false rest = rest
+
+pub spread_none : (R : ℕ → Feed → Feed → Type 0) (fs : List Feed) → Spread R [] fs fs
+spread_none R fs = record { long = refl; changed = λ k d r lt e. absurd (none_some r e); kept = λ k d lt e. refl }
 
 -- the subscriber's feed is changed
-pub spread_step : (R : Feed → Feed → Type 0) (names due : List Bytes) (olds mids news : List Feed) (i : ℕ) (s : Bytes)
-    → Found names olds i s → is_in s due ≡ false → Spread R due olds mids → Sets R i mids news → Spread R (due ++ s ∷ []) olds news
-spread_step R names due olds mids news i s f fresh p sets = record {
+pub spread_step : (R : ℕ → Feed → Feed → Type 0) (names : List Bytes) (due : List Due) (olds mids news : List Feed) (i : ℕ) (e : Due)
+    → Found names olds i e.subscriber → is_in e.subscriber (names_in due) ≡ false → Spread R due olds mids → Sets (R e.release) i mids news → Spread R (due ++ e ∷ []) olds news
+spread_step R names due olds mids news i e f fresh p sets = record {
   long = sets.long ∙ p.long;
-  changed = λ k d lt e. change k d lt e (cases_eq k i);
-  kept = λ k d lt e. keep k d lt (none_of _ _ (sym (in_more (name_of (get_or olds k d)) s due) ∙ e)) (cases_eq k i);
+  changed = λ k d r lt is. change k d r lt is (cases_eq k i);
+  kept = λ k d lt none. keep k d lt none (cases_eq k i);
 }
   where
-    change : (k : ℕ) (d : Feed) → k < length olds → is_in (name_of (get_or olds k d)) (due ++ s ∷ []) ≡ true → (k ≡ i) ⊎ (k ≡ i → ⊥) → R (get_or olds k d) (get_or news k d)
-    change k d lt e (inl is) =
-        let here : name_of (get_or olds i d) ≡ s = here_named names olds i s d f in
-        let kept : get_or mids i d ≡ get_or olds i d = p.kept i d f.within (ap (λ t. is_in t due) here ∙ fresh) in
-        rw (is, ← kept) (sets.here d)
-    change k d lt e (inr other) = elim (or_true _ _ (sym (in_more (name_of (get_or olds k d)) s due) ∙ e)) [
-      | inl among ↦ rw (sets.there k d other) (p.changed k d lt among)
-      | inr is ↦ absurd (true≢false (sym is ∙ other_named names olds i k s d f lt other))
-    ]
+    -- for another place the release is what it was
+    other_release : (k : ℕ) (d : Feed) → k < length olds → (k ≡ i → ⊥) → release_to (name_of (get_or olds k d)) (due ++ e ∷ []) ≡ release_to (name_of (get_or olds k d)) due
+    other_release k d lt other =
+        let s = name_of (get_or olds k d) in
+        let apart : same s e.subscriber ≡ false = other_named names olds i k e.subscriber d f lt other in
+        due_more s e due ∙ by s (is_in s (names_in due)) refl (rw apart refl)
+      where
+        by : (s : Bytes) (b : Bool) → is_in s (names_in due) ≡ b → release_to s (e ∷ []) ≡ None → cond b (release_to s due) (release_to s (e ∷ [])) ≡ release_to s due
+        by s true is none = refl
+        by s false is none = none ∙ sym (not_in s due is)
 
-    keep : (k : ℕ) (d : Feed) → k < length olds → (is_in (name_of (get_or olds k d)) due ≡ false) × (same (name_of (get_or olds k d)) s ≡ false) → (k ≡ i) ⊎ (k ≡ i → ⊥) → get_or news k d ≡ get_or olds k d
-    keep k d lt none (inl is) =
-        let here : name_of (get_or olds i d) ≡ s = here_named names olds i s d f in
-        let there : name_of (get_or olds k d) ≡ s = ap (λ j. name_of (get_or olds j d)) is ∙ here in
-        absurd (true≢false (sym (ap (λ t. same t s) there ∙ same_self s) ∙ none.1))
-    keep k d lt none (inr other) = sets.there k d other ∙ p.kept k d lt none.0
+    -- here it is the new one
+    here_release : (d : Feed) → release_to (name_of (get_or olds i d)) (due ++ e ∷ []) ≡ Some e.release
+    here_release d =
+        let here : name_of (get_or olds i d) ≡ e.subscriber = here_named names olds i e.subscriber d f in
+        ap (λ s. release_to s (due ++ e ∷ [])) here ∙ due_more e.subscriber e due ∙ rw (fresh, same_self e.subscriber) refl
+
+    was_kept : (d : Feed) → get_or mids i d ≡ get_or olds i d
+    was_kept d = p.kept i d f.within (ap (λ s. release_to s due) (here_named names olds i e.subscriber d f) ∙ not_in e.subscriber due fresh)
+
+    change : (k : ℕ) (d : Feed) (r : ℕ) → k < length olds → release_to (name_of (get_or olds k d)) (due ++ e ∷ []) ≡ Some r → (k ≡ i) ⊎ (k ≡ i → ⊥) → R r (get_or olds k d) (get_or news k d)
+    change k d r lt is (inl at) =
+        let is_r : e.release ≡ r = some_is e.release r (sym (here_release d) ∙ ap (λ j. release_to (name_of (get_or olds j d)) (due ++ e ∷ [])) (sym at) ∙ is) in
+        let Q : ℕ → Type 0 = λ x. R x (get_or olds i d) (get_or news i d) in
+        let step : R e.release (get_or olds i d) (get_or news i d) = rw (← was_kept d) (sets.here d) in
+        let S : ℕ → Type 0 = λ j. R r (get_or olds j d) (get_or news j d) in
+        subst S (sym at) (subst Q is_r step)
+    change k d r lt is (inr other) = rw (sets.there k d other) (p.changed k d r lt (sym (other_release k d lt other) ∙ is))
+
+    keep : (k : ℕ) (d : Feed) → k < length olds → release_to (name_of (get_or olds k d)) (due ++ e ∷ []) ≡ None → (k ≡ i) ⊎ (k ≡ i → ⊥) → get_or news k d ≡ get_or olds k d
+    keep k d lt none (inl at) = absurd (none_some e.release (sym none ∙ ap (λ j. release_to (name_of (get_or olds j d)) (due ++ e ∷ [])) at ∙ here_release d))
+    keep k d lt none (inr other) = sets.there k d other ∙ p.kept k d lt (sym (other_release k d lt other) ∙ none)
 
 -- there is no such subscriber
-pub spread_past : (R : Feed → Feed → Type 0) (due : List Bytes) (olds news : List Feed) (s : Bytes)
-    → is_in s (map name_of olds) ≡ false → Spread R due olds news → Spread R (due ++ s ∷ []) olds news
-spread_past R due olds news s none p = record {
+pub spread_past : (R : ℕ → Feed → Feed → Type 0) (due : List Due) (olds news : List Feed) (e : Due)
+    → is_in e.subscriber (map name_of olds) ≡ false → Spread R due olds news → Spread R (due ++ e ∷ []) olds news
+spread_past R due olds news e none p = record {
   long = p.long;
-  changed = λ k d lt e. p.changed k d lt (sym (same_due k d lt) ∙ e);
-  kept = λ k d lt e. p.kept k d lt (sym (same_due k d lt) ∙ e);
+  changed = λ k d r lt is. p.changed k d r lt (sym (same_due k d lt) ∙ is);
+  kept = λ k d lt is. p.kept k d lt (sym (same_due k d lt) ∙ is);
 }
   where
-    same_due : (k : ℕ) (d : Feed) → k < length olds → is_in (name_of (get_or olds k d)) (due ++ s ∷ []) ≡ is_in (name_of (get_or olds k d)) due
+    by : (s : Bytes) (b : Bool) → is_in s (names_in due) ≡ b → release_to s (e ∷ []) ≡ None → cond b (release_to s due) (release_to s (e ∷ [])) ≡ release_to s due
+    by s true is none_of = refl
+    by s false is none_of = none_of ∙ sym (not_in s due is)
+
+    same_due : (k : ℕ) (d : Feed) → k < length olds → release_to (name_of (get_or olds k d)) (due ++ e ∷ []) ≡ release_to (name_of (get_or olds k d)) due
     same_due k d lt =
+        let s = name_of (get_or olds k d) in
         let long : length (map name_of olds) ≡ length olds = length-map olds name_of in
-        let other : same (name_of (get_or olds k d)) s ≡ false = ap (λ t. same t s) (sym (name_at olds k d lt)) ∙ not_named s (map name_of olds) k (name_of d) none (omega (arith, long, lt)) in
-        in_more (name_of (get_or olds k d)) s due ∙ rw other (or_false (is_in (name_of (get_or olds k d)) due))
+        let other : same s e.subscriber ≡ false = ap (λ t. same t e.subscriber) (sym (name_at olds k d lt)) ∙ not_named e.subscriber (map name_of olds) k (name_of d) none (omega (arith, long, lt)) in
+        due_more s e due ∙ by s (is_in s (names_in due)) refl (rw other refl)
+
+-- ---- the feed of one subscriber
+
+pub one_set : (R : Feed → Feed → Type 0) (names : List Bytes) (olds news : List Feed) (i : ℕ) (s : Bytes) → Found names olds i s → Sets R i olds news → OneGoes R s olds news
+one_set R names olds news i s f sets = record {
+  long = sets.long;
+  changed = λ k d lt is. change k d lt is (cases_eq k i);
+  kept = λ k d lt other. keep k d lt other (cases_eq k i);
+}
+  where
+    change : (k : ℕ) (d : Feed) → k < length olds → same (name_of (get_or olds k d)) s ≡ true → (k ≡ i) ⊎ (k ≡ i → ⊥) → R (get_or olds k d) (get_or news k d)
+    change k d lt is (inl at) = rw at (sets.here d)
+    change k d lt is (inr other) = absurd (true≢false (sym is ∙ other_named names olds i k s d f lt other))
+
+    keep : (k : ℕ) (d : Feed) → k < length olds → same (name_of (get_or olds k d)) s ≡ false → (k ≡ i) ⊎ (k ≡ i → ⊥) → get_or news k d ≡ get_or olds k d
+    keep k d lt is (inl at) =
+        let there : name_of (get_or olds k d) ≡ s = ap (λ j. name_of (get_or olds j d)) at ∙ here_named names olds i s d f in
+        absurd (true≢false (sym (ap (λ t. same t s) there ∙ same_self s) ∙ is))
+    keep k d lt is (inr other) = sets.there k d other
+
+pub one_none : (R : Feed → Feed → Type 0) (fs : List Feed) (s : Bytes) → is_in s (map name_of fs) ≡ false → OneGoes R s fs fs
+one_none R fs s none = record {
+  long = refl;
+  changed = λ k d lt is.
+      let long : length (map name_of fs) ≡ length fs = length-map fs name_of in
+      absurd (true≢false (sym is ∙ ap (λ t. same t s) (sym (name_at fs k d lt)) ∙ not_named s (map name_of fs) k (name_of d) none (omega (arith, long, lt))));
+  kept = λ k d lt is. refl;
+}
+
+-- a feed is changed, or it is as it was
+pub one_each : (R S : Feed → Feed → Type 0) (s : Bytes) (olds news : List Feed) → OneGoes R s olds news → ((f g : Feed) → R f g → S f g) → ((f : Feed) → S f f) → EachGoes S olds news
+one_each R S s olds news goes changed kept = record {
+  long = goes.long;
+  each = λ k d lt. by k d lt (same (name_of (get_or olds k d)) s) refl;
+}
+  where
+    by : (k : ℕ) (d : Feed) → k < length olds → (b : Bool) → same (name_of (get_or olds k d)) s ≡ b → S (get_or olds k d) (get_or news k d)
+    by k d lt true is = changed _ _ (goes.changed k d lt is)
+    by k d lt false is = rw (goes.kept k d lt is) (kept (get_or olds k d))
 
 -- ---- the loop over the names
 
@@ -254,15 +327,29 @@ found_at names fs at s up named found =
     record { ascends = up; named = named; within = omega (arith, long, same, found.0); is = found.1 }
 
 -- the name at hand is not among those before it
-pub fresh : (due : List Bytes) (k : ℕ) (s : Bytes) → Differ due → k < length due → s ≡ get_or due k s → is_in s (take k due) ≡ false
-fresh due k s differ lt is = ap (λ t. is_in t (take k due)) is ∙ differ_take due k s differ lt
+pub fresh : (due : List Due) (k : ℕ) (e : Due) → Differ (names_in due) → k < length due → e ≡ get_or due k e → is_in e.subscriber (names_in (take k due)) ≡ false
+fresh due k e differ lt is =
+    let long : length (names_in due) ≡ length due = length-map due subscriber_in in
+    let at : get_or (names_in due) k e.subscriber ≡ e.subscriber = get_or-map subscriber_in due k e e.subscriber lt ∙ ap subscriber_in (sym is) in
+    ap (is_in e.subscriber) (sym (take_map due k)) ∙ ap (λ t. is_in t (take k (names_in due))) (sym at) ∙ differ_take (names_in due) k e.subscriber differ (omega (arith, long, lt))
+  where
+    take_map : (due : List Due) (k : ℕ) → take k (names_in due) ≡ names_in (take k due)
+    take_map due zero = refl
+    take_map [] (suc k) = refl
+    take_map (d ∷ ds) (suc k) = ap (λ ns. d.subscriber ∷ ns) (take_map ds k)
 
-pub one_more : (due : List Bytes) (k : ℕ) (s : Bytes) → k < length due → s ≡ get_or due k s → take (k + 1) due ≡ take k due ++ s ∷ []
-one_more due k s lt is = take_more due k s lt ∙ ap (λ t. take k due ++ t ∷ []) (sym is)
+pub one_more : {A : Type 0} (xs : List A) (k : ℕ) (x : A) → k < length xs → x ≡ get_or xs k x → take (k + 1) xs ≡ take k xs ++ x ∷ []
+one_more xs k x lt is = take_more xs k x lt ∙ ap (λ y. take k xs ++ y ∷ []) (sym is)
 
 -- it is due
-pub is_due_now : (due : List Bytes) (k : ℕ) (s : Bytes) → k < length due → s ≡ get_or due k s → is_in s due ≡ true
-is_due_now due k s lt is = present s due k s lt (sym is)
+pub is_due_now : (due : List Due) (k : ℕ) (e : Due) → k < length due → e ≡ get_or due k e → is_in e.subscriber (names_in due) ≡ true
+is_due_now due k e lt is =
+    let long : length (names_in due) ≡ length due = length-map due subscriber_in in
+    present e.subscriber (names_in due) k e.subscriber (omega (arith, long, lt)) (get_or-map subscriber_in due k e e.subscriber lt ∙ ap subscriber_in (sym is))
+
+-- its feed has not been changed yet
+pub not_yet : (due : List Due) (k : ℕ) (e : Due) → Differ (names_in due) → k < length due → e ≡ get_or due k e → release_to e.subscriber (take k due) ≡ None
+not_yet due k e differ lt is = not_in e.subscriber (take k due) (fresh due k e differ lt is)
 
 -- one more of them has room
 pub roomy_step : (names due : List Bytes) (mids news : List Feed) (i : ℕ) (s : Bytes)

@@ -1,13 +1,14 @@
--- Which feed is pushed next, by the facts of a queue.
-use Rattle.std.specs.Prelude.{ℕ, ◌+◌, min, Bool, not, ◌&&◌, nat_le, List, [], ◌∷◌, slice_get, filter_map, if◌then◌else◌, Option, Some, None, option_map}
+-- Which feed is pushed next, by the facts of a queue: it is `choice` where they are the facts of a list.
+use Rattle.std.specs.Prelude.{ℕ, ◌+◌, Bool, not, ◌&&◌, nat_le, List, [], ◌∷◌, slice_get, filter_map, if◌then◌else◌, Option, Some, None, option_map}
 use Rattle.news_types.specs.declared.query.Ready.{Ready}
 use Rattle.news_types.specs.declared.query.Ready.TheVariants.{Now, Later}
 use Rattle.news_types.specs.Names.{Bytes, is_in}
-use Rattle.news_types.specs.Publications.{Pub}
+use Rattle.news_types.specs.Due.{Pub}
 use Rattle.news_types.specs.Feeds.{feed_of, waiting_of}
 use Rattle.news_types.specs.Delivery.{Candidate, candidate, earliest, is_by, pauses, first_release, or_else}
 use Rattle.publish_queue.specs.declared.turns.Turn.{Turn}
 use Rattle.publish_queue.specs.Keeps.{turn_of}
+use Rattle.publish_queue.specs.Coming.{sooner}
 
 abbrev pub ready_candidate_of : List Bytes → List Pub → ℕ → (Bytes → ℕ) → (Bytes → ℕ) → (Bytes → ℕ) → ℕ → Bytes → Option Candidate
 ready_candidate_of names ps m acked tries tried at s =
@@ -46,12 +47,6 @@ first_among asked m (t ∷ ts) = if nat_le t.moment m then (if is_in t.name aske
 
 abbrev pub candidate_at : Turn → Candidate
 candidate_at t = candidate t.name t.moment
-
--- the earlier moment, if any
-abbrev pub sooner : Option ℕ → Option ℕ → Option ℕ
-sooner None b = b
-sooner (Some a) None = Some a
-sooner (Some a) (Some b) = Some (min a b)
 
 -- the least moment of these
 abbrev pub soonest : (Bytes → Option ℕ) → List Bytes → Option ℕ

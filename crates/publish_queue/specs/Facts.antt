@@ -1,7 +1,7 @@
 -- How a feed stands.
 use Rattle.std.specs.Prelude.{ℕ, List, length, nat_lt}
 use Rattle.news_types.specs.Names.{Bytes}
-use Rattle.news_types.specs.Publications.{Pub}
+use Rattle.news_types.specs.Due.{Pub}
 use Rattle.news_types.specs.Feeds.{feed_of, waiting_of}
 use Rattle.publish_queue.specs.declared.ask.FeedFacts.{FeedFacts}
 

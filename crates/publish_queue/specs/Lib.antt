@@ -1,9 +1,12 @@
 pub mod Rows
+pub mod Places
 pub mod Order
 pub mod Ready
 pub mod Steps
 pub mod Turns
 pub mod Many
 pub mod Keeps
+pub mod Withdrawn
+pub mod Coming
 pub mod Facts
 pub mod Choice

@@ -1,13 +1,15 @@
 -- What a call does to several feeds.
-use Rattle.std.specs.Prelude.{◌≡◌, ℕ, ◌+◌, ◌<◌, ◌≤◌, true, false, List, [], ◌∷◌, length, slice_index_or, if◌then◌else◌, Option, None, vec_len, vec_capacity}
+use Rattle.std.specs.Prelude.{◌≡◌, ℕ, ◌+◌, ◌<◌, ◌≤◌, true, false, List, [], ◌∷◌, length, map, slice_index_or, if◌then◌else◌, Option, Some, None, vec_len, vec_capacity}
+use Rattle.news_types.specs.declared.query.Due.{Due}
 use Rattle.news_types.specs.Names.{Bytes, same, is_in}
+use Rattle.news_types.specs.Due.{release_to}
 use Rattle.publish_queue.specs.declared.feed.Delivery.{Delivery}
 use Rattle.publish_queue.specs.declared.feed.Feed.{Feed}
 use Rattle.publish_queue.specs.declared.waiting.Release.{Release}
 use Rattle.publish_queue.specs.declared.turns.Turns.{Turns}
 use Rattle.publish_queue.specs.Rows.{Rising}
 use Rattle.publish_queue.specs.Steps.{IsAlike, IsAdded, IsAdvanced, IsDelivered, FitsOneMore}
-use Rattle.publish_queue.specs.Ready.{NumbersAscend, row_turn}
+use Rattle.publish_queue.specs.Ready.{row_turn}
 use Rattle.publish_queue.specs.Turns.{HoldsTurns, one}
 
 abbrev pub name_of : Feed → Bytes
@@ -28,11 +30,27 @@ pub record EachGoes (R : Feed → Feed → Type 0) (olds news : List Feed) : Typ
   pub long : length news ≡ length olds
   pub each : (k : ℕ) (d : Feed) → k < length olds → R (slice_index_or olds k d) (slice_index_or news k d)
 
--- the feeds of these subscribers are changed, and no others
-pub record Spread (R : Feed → Feed → Type 0) (due : List Bytes) (olds news : List Feed) : Type 0 where
+-- the feed of one subscriber is changed, and no other
+pub record OneGoes (R : Feed → Feed → Type 0) (s : Bytes) (olds news : List Feed) : Type 0 where
   pub long : length news ≡ length olds
-  pub changed : (k : ℕ) (d : Feed) → k < length olds → is_in (slice_index_or olds k d).name due ≡ true → R (slice_index_or olds k d) (slice_index_or news k d)
-  pub kept : (k : ℕ) (d : Feed) → k < length olds → is_in (slice_index_or olds k d).name due ≡ false → slice_index_or news k d ≡ slice_index_or olds k d
+  pub changed : (k : ℕ) (d : Feed) → k < length olds → same (slice_index_or olds k d).name s ≡ true → R (slice_index_or olds k d) (slice_index_or news k d)
+  pub kept : (k : ℕ) (d : Feed) → k < length olds → same (slice_index_or olds k d).name s ≡ false → slice_index_or news k d ≡ slice_index_or olds k d
+
+-- those to whom something is due
+abbrev pub subscriber_in : Due → Bytes
+subscriber_in d = d.subscriber
+
+abbrev pub names_in : List Due → List Bytes
+names_in due = map subscriber_in due
+
+abbrev pub release_by : ℕ → ℕ → Release
+release_by number moment = record { moment = moment; number = number }
+
+-- the feeds of those to whom something is due are changed, each by its release, and no others
+pub record Spread (R : ℕ → Feed → Feed → Type 0) (due : List Due) (olds news : List Feed) : Type 0 where
+  pub long : length news ≡ length olds
+  pub changed : (k : ℕ) (d : Feed) (r : ℕ) → k < length olds → release_to (slice_index_or olds k d).name due ≡ Some r → R r (slice_index_or olds k d) (slice_index_or news k d)
+  pub kept : (k : ℕ) (d : Feed) → k < length olds → release_to (slice_index_or olds k d).name due ≡ None → slice_index_or news k d ≡ slice_index_or olds k d
 
 -- ---- in the order in which they may be pushed
 
@@ -53,26 +71,27 @@ pub record IsOrdered (fs : List Feed) (turns : Turns) : Type 0 where
   pub room : length fs ≤ vec_capacity turns.turns
 
 -- the feed stands where it belongs among those that may be pushed
-pub record IsSettled (releases : List Release) (old new : Feed) : Type 0 where
+pub record IsSettled (old new : Feed) : Type 0 where
   pub alike : IsAlike old new
-  pub turn : NumbersAscend releases → new.turn ≡ row_turn releases new
+  pub turn : new.turn ≡ row_turn new
   pub fits : FitsOneMore old → FitsOneMore new
 
--- the publication is in the row, or it waits, and the feed stands where it belongs
-pub record IsAddedTo (releases : List Release) (release : Release) (moment : ℕ) (old new : Feed) : Type 0 where
+-- the publication of that number, which has that release for the subscriber, is in the row, or it waits, and the feed stands
+-- where it belongs
+pub record IsAddedTo (number moment release : ℕ) (old new : Feed) : Type 0 where
   pub name : new.name ≡ old.name
-  pub added : Rising old.waiting.releases.items → IsAdded release moment old new
-  pub turn : NumbersAscend releases → new.turn ≡ row_turn releases new
+  pub added : Rising old.waiting.releases.items → IsAdded (release_by number release) moment old new
+  pub turn : new.turn ≡ row_turn new
 
 -- what is released is in the row, and the feed stands where it belongs
-pub record IsAdvancedTo (releases : List Release) (moment : ℕ) (old new : Feed) : Type 0 where
+pub record IsAdvancedTo (moment : ℕ) (old new : Feed) : Type 0 where
   pub advanced : IsAdvanced moment old new
-  pub turn : NumbersAscend releases → old.turn ≡ row_turn releases old → new.turn ≡ row_turn releases new
+  pub turn : old.turn ≡ row_turn old → new.turn ≡ row_turn new
 
 -- its delivery stands otherwise, and the feed stands where it belongs
-pub record IsDeliveredTo (releases : List Release) (delivery : Delivery) (old new : Feed) : Type 0 where
+pub record IsDeliveredTo (delivery : Delivery) (old new : Feed) : Type 0 where
   pub delivered : IsDelivered delivery old new
-  pub turn : NumbersAscend releases → new.turn ≡ row_turn releases new
+  pub turn : new.turn ≡ row_turn new
 
 -- the same feed, as far as it counts
 pub record IsSame (old new : Feed) : Type 0 where

@@ -1,22 +1,33 @@
 -- What a call does to one feed.
-use Rattle.std.specs.Prelude.{◌≡◌, ℕ, ◌+◌, ◌<◌, ◌≤◌, [], ◌∷◌, ◌++◌, None, vec_len, vec_capacity}
+use Rattle.std.specs.Prelude.{◌≡◌, ℕ, ◌+◌, ◌<◌, ◌≤◌, List, [], ◌∷◌, ◌++◌, None, vec_len}
 use Rattle.std.specs.VecDeque.{deque_len, deque_capacity}
 use Rattle.news_types.specs.Names.{Bytes}
 use Rattle.publish_queue.specs.declared.waiting.Release.{Release}
+use Rattle.publish_queue.specs.declared.row.Row.{Row}
 use Rattle.publish_queue.specs.declared.feed.Delivery.{Delivery}
 use Rattle.publish_queue.specs.declared.feed.Feed.{Feed}
-use Rattle.publish_queue.specs.Rows.{placed, moved, left, without}
+use Rattle.publish_queue.specs.Rows.{placed, moved, left, without, number_in, moment_in}
+use Rattle.publish_queue.specs.Places.{HasPlaces}
 
 -- one more publication fits
 pub record FitsOneMore (f : Feed) : Type 0 where
-  pub row : vec_len f.row + deque_len f.waiting.releases < vec_capacity f.row
+  pub row : HasPlaces (deque_len f.waiting.releases + 1) f.row
   pub waiting : deque_len f.waiting.releases < deque_capacity f.waiting.releases
-  pub few : vec_len f.row + deque_len f.waiting.releases < 4294967295
+  pub few : vec_len f.row.numbers + deque_len f.waiting.releases < 4294967295
+
+-- the entries are these
+pub record HasEntries (row : Row) (ns rs : List ℕ) : Type 0 where
+  pub numbers : row.numbers.items ≡ ns
+  pub releases : row.releases.items ≡ rs
+
+-- the same entries
+abbrev pub SameEntries : Row → Row → Type 0
+SameEntries old new = HasEntries new old.numbers.items old.releases.items
 
 -- nothing is in it
 pub record IsEmptyFeed (s : Bytes) (f : Feed) : Type 0 where
   pub name : f.name ≡ s
-  pub row : f.row.items ≡ []
+  pub row : HasEntries f.row [] []
   pub waiting : f.waiting.releases.items ≡ []
   pub acked : f.delivery.acked ≡ 0
   pub tries : f.delivery.tries ≡ 0
@@ -31,34 +42,35 @@ pub record SameDelivery (old new : Feed) : Type 0 where
 -- the same feed
 pub record IsAlike (old new : Feed) : Type 0 where
   pub delivery : SameDelivery old new
-  pub row : new.row.items ≡ old.row.items
+  pub row : SameEntries old.row new.row
   pub waiting : new.waiting.releases.items ≡ old.waiting.releases.items
 
 -- those whose release has come are in the row
 pub record IsAdvanced (moment : ℕ) (old new : Feed) : Type 0 where
   pub delivery : SameDelivery old new
-  pub row : new.row.items ≡ moved moment old.row.items old.waiting.releases.items
+  pub row : HasEntries new.row (moved number_in moment old.row.numbers.items old.waiting.releases.items) (moved moment_in moment old.row.releases.items old.waiting.releases.items)
   pub waiting : new.waiting.releases.items ≡ left moment old.waiting.releases.items
   pub fits : FitsOneMore old → FitsOneMore new
 
--- the publication does not wait any more
-pub record IsWithdrawn (number : ℕ) (old new : Feed) : Type 0 where
+-- the publications do not wait any more
+pub record IsWithdrawn (numbers : List ℕ) (old new : Feed) : Type 0 where
   pub delivery : SameDelivery old new
-  pub row : new.row.items ≡ old.row.items
-  pub waiting : new.waiting.releases.items ≡ without number old.waiting.releases.items
+  pub row : SameEntries old.row new.row
+  pub waiting : new.waiting.releases.items ≡ without numbers old.waiting.releases.items
   pub turn : new.turn ≡ old.turn
   pub fits : FitsOneMore old → FitsOneMore new
 
 -- the publication is in the row, or it waits
 pub record IsAdded (release : Release) (moment : ℕ) (old new : Feed) : Type 0 where
   pub delivery : SameDelivery old new
-  pub out : release.moment ≤ moment → (new.row.items ≡ old.row.items ++ release.number ∷ []) × (new.waiting.releases.items ≡ old.waiting.releases.items)
-  pub later : moment < release.moment → (new.row.items ≡ old.row.items) × (new.waiting.releases.items ≡ placed release old.waiting.releases.items)
+  pub out : release.moment ≤ moment
+      → HasEntries new.row (old.row.numbers.items ++ release.number ∷ []) (old.row.releases.items ++ release.moment ∷ []) × (new.waiting.releases.items ≡ old.waiting.releases.items)
+  pub later : moment < release.moment → SameEntries old.row new.row × (new.waiting.releases.items ≡ placed release old.waiting.releases.items)
 
 -- its delivery stands otherwise
 pub record IsDelivered (delivery : Delivery) (old new : Feed) : Type 0 where
   pub name : new.name ≡ old.name
-  pub row : new.row.items ≡ old.row.items
+  pub row : SameEntries old.row new.row
   pub waiting : new.waiting.releases.items ≡ old.waiting.releases.items
   pub stands : new.delivery ≡ delivery
   pub fits : FitsOneMore old → FitsOneMore new

@@ -2,7 +2,7 @@
 ghost use Rattle.std.specs.Prelude.{◌≡◌, ℕ, List, None, if◌then◌else◌};
 ghost use Rattle.std.specs.Option.{option_map};
 ghost use Rattle.news_types.specs.Names.{Bytes, is_in};
-ghost use Rattle.news_types.specs.Publications.{Pub};
+ghost use Rattle.news_types.specs.Due.{Pub};
 ghost use Rattle.news_types.specs.Feeds.{feed_of};
 ghost use Rattle.news_types.specs.Frames.{numbered};
 ghost use Rattle.publish_queue.specs.Order.{Ascends};
@@ -46,7 +46,7 @@ impl Queue {
     {
         let at = find(&self.names, subscriber)?;
         let index = k.checked_sub(1)? as usize;
-        self.feeds[at].row.get(index).copied()
+        self.feeds[at].row.number_at(index)
     }
 
     /// How the feed of a subscriber stands. Nothing where the subscriber is not there.

@@ -2,11 +2,11 @@
 ghost use Rattle.std.specs.Prelude.{◌≡◌, OnOk};
 ghost use Rattle.std.specs.Bool.{MatchBool};
 ghost use Rattle.publish_queue.specs.Rows.{Rising, FirstIsLater};
-ghost use Rattle.publish_queue.specs.Ready.{NumbersAscend, row_turn, later_by};
+ghost use Rattle.publish_queue.specs.Ready.{row_turn, later_by};
 ghost use Rattle.publish_queue.specs.Steps.{IsEmptyFeed, IsAlike, IsAdvanced, IsAdded, IsWithdrawn, IsDelivered, FitsOneMore};
 
 use crate::feed::{Delivery, Feed};
-use crate::ready::moment_of;
+use crate::row::Row;
 use crate::waiting::{Release, WaitingList};
 use news_types::{Memory, Moment, Name};
 use release_rules::retry_delay;
@@ -19,7 +19,7 @@ impl Feed {
     {
         Feed {
             name,
-            row: Vec::new(alloc),
+            row: Row::new(alloc),
             waiting: WaitingList::new(alloc),
             delivery: Delivery {
                 acked: 0,
@@ -51,7 +51,7 @@ impl Feed {
         ensures turn { self.new.turn ≡ self.old.turn }
     {
         while let Some(release) = self.waiting.take_due(moment) {
-            self.row.push_reserved(release.number);
+            self.row.push(release);
         }
     }
 
@@ -63,17 +63,17 @@ impl Feed {
         ensures turn { self.new.turn ≡ self.old.turn }
     {
         if release.moment <= moment {
-            self.row.push_reserved(release.number);
+            self.row.push(release);
             return;
         }
         self.waiting.add(release);
     }
 
-    /// Takes a publication out of those that wait.
-    pub fn withdraw(&mut self, number: u32)
-        ensures { IsWithdrawn number self.old self.new }
+    /// Takes publications out of those that wait.
+    pub fn withdraw(&mut self, numbers: &[u32])
+        ensures { IsWithdrawn numbers.now self.old self.new }
     {
-        self.waiting.remove(number);
+        self.waiting.remove(numbers);
     }
 
     /// Says how its delivery stands.
@@ -113,18 +113,18 @@ impl Feed {
         }
         match self.turn {
             Some(moment) => Some(moment),
-            None => Some(self.waiting.first()?.moment),
+            None => self.waiting.next(),
         }
     }
 
     /// When it may be pushed: at the release of the first entry that is not acknowledged, or a
     /// delay after the last attempt. Nothing where all is acknowledged, or the feed is paused.
-    pub fn ready_at(&self, releases: &[Release]) -> Option<Moment>
-        ensures { NumbersAscend releases.now → result ≡ row_turn releases.now self.now }
+    pub fn ready_at(&self) -> Option<Moment>
+        ensures { result ≡ row_turn self.now }
     {
-        let number = *self.row.get(self.delivery.acked as usize)?;
+        let release = self.row.release_at(self.delivery.acked as usize)?;
         if self.delivery.tries == 0 {
-            return moment_of(releases, number);
+            return Some(release);
         }
         if self.delivery.tries >= MOST_TRIES {
             return None;

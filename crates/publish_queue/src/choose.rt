@@ -1,10 +1,13 @@
 //! Which feed is pushed next.
 ghost use Rattle.std.specs.Prelude.{◌≡◌, ℕ, ◌+◌, true, Some, List, Option, option_map};
 ghost use Rattle.news_types.specs.Names.{Bytes, is_in};
-ghost use Rattle.news_types.specs.Publications.{Pub};
-ghost use Rattle.publish_queue.specs.Keeps.{Keeps, turn_of};
-ghost use Rattle.publish_queue.specs.Choice.{choice_of, first_among, sooner, soonest, later_moment_of};
+ghost use Rattle.news_types.specs.Due.{Pub};
+ghost use Rattle.news_types.specs.History.{History};
+ghost use Rattle.news_types.specs.Delivery.{choice};
+ghost use Rattle.publish_queue.specs.Keeps.{Keeps, KeepsFactsOf, turn_of};
+ghost use Rattle.publish_queue.specs.Choice.{first_among, soonest, later_moment_of};
 
+use crate::coming::sooner_of;
 use crate::queue::Queue;
 use crate::search::find;
 use crate::turns::Turn;
@@ -15,8 +18,7 @@ impl Queue {
     /// moment the one with the lesser name. Where none is ready, the least moment at which one may
     /// be, if nothing else happens: paused feeds, and names that are no subscriber, give none.
     pub fn next_ready(&self, names: &[Name], moment: Moment) -> Ready
-        ensures { (subscribers : List Bytes) (ps : List Pub) (m : ℕ) (acked tries tried : Bytes → ℕ) →
-            Keeps self.now subscribers ps m acked tries tried → result ≡ choice_of subscribers ps m acked tries tried names.now moment }
+        ensures { (h : History) → KeepsFactsOf self.now h → result ≡ choice h names.now moment }
     {
         match first_turn(&self.turns.turns, names, moment) {
             Some(turn) => Ready::Now {
@@ -76,15 +78,4 @@ fn first_turn(turns: &[Turn], names: &[Name], moment: Moment) -> Option<Turn>
         }
     }
     None
-}
-
-// The earlier moment, if any.
-fn sooner_of(a: Option<Moment>, b: Option<Moment>) -> Option<Moment>
-    ensures { result ≡ sooner a b }
-{
-    match (a, b) {
-        (Some(a), Some(b)) => Some(a.min(b)),
-        (Some(a), None) => Some(a),
-        (None, b) => b,
-    }
 }

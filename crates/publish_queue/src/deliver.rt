@@ -1,7 +1,7 @@
 //! Attempts, receipts and resumes.
 ghost use Rattle.std.specs.Prelude.{◌≡◌, ℕ, ◌+◌, ◌<◌, ◌&&◌, true, max, nat_lt, IsTrue, List, if◌then◌else◌, slice_index_or, vec_len};
 ghost use Rattle.news_types.specs.Names.{Bytes, same, is_in};
-ghost use Rattle.news_types.specs.Publications.{Pub};
+ghost use Rattle.news_types.specs.Due.{Pub};
 ghost use Rattle.news_types.specs.Delivery.{is_by};
 ghost use Rattle.publish_queue.specs.Keeps.{Keeps, HasRoom, IsSetTo, turn_of};
 
@@ -73,12 +73,6 @@ impl Queue {
             Keeps self.new names ps m acked_then tries_then tried_then }
         ensures room { (due : List Bytes) → HasRoom self.old due → HasRoom self.new due }
     {
-        deliver_at(
-            &mut self.feeds,
-            &mut self.turns,
-            &self.releases,
-            at,
-            delivery,
-        );
+        deliver_at(&mut self.feeds, &mut self.turns, at, delivery);
     }
 }

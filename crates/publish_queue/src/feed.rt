@@ -2,6 +2,7 @@
 ghost use Rattle.std.specs.Prelude.{◌≡◌, ◌+◌, ◌<◌, ◌≤◌, vec_len, vec_capacity};
 ghost use Rattle.std.specs.VecDeque.{deque_len};
 
+use crate::row::Row;
 use crate::waiting::WaitingList;
 use news_types::{Moment, Name};
 
@@ -37,13 +38,13 @@ impl Delivery {
 #[derive(Drop)]
 pub struct Feed {
     pub name: Name,
-    /// The publications' numbers, entry after entry.
-    pub row: Vec<u32>,
+    pub row: Row,
     pub waiting: WaitingList,
     pub delivery: Delivery,
     /// The moment under which it stands among the feeds that may be pushed.
     pub turn: Option<Moment>,
     // What waits has its place in the row already, so that a release takes no memory.
-    ghost room: { vec_len row + deque_len waiting.releases ≤ vec_capacity row },
-    ghost few: { vec_len row + deque_len waiting.releases ≤ 4294967295 },
+    ghost numbers: { vec_len row.numbers + deque_len waiting.releases ≤ vec_capacity row.numbers },
+    ghost releases: { vec_len row.numbers + deque_len waiting.releases ≤ vec_capacity row.releases },
+    ghost few: { vec_len row.numbers + deque_len waiting.releases ≤ 4294967295 },
 }

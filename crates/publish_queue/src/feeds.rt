@@ -3,13 +3,13 @@ ghost use Rattle.std.specs.Prelude.{◌≡◌, ◌<◌, OnOk, length, map, vec_l
 ghost use Rattle.std.specs.List.{All, HoldsAt};
 ghost use Rattle.publish_queue.specs.Order.{Ascends, Differ};
 ghost use Rattle.publish_queue.specs.Steps.{IsWithdrawn, FitsOneMore};
-ghost use Rattle.publish_queue.specs.Many.{Sets, Spread, EachGoes, IsRoomy, IsSame, IsAddedTo, IsAdvancedTo, IsDeliveredTo, IsSettled, IsOrdered, name_of};
+ghost use Rattle.publish_queue.specs.Many.{Sets, Spread, EachGoes, OneGoes, IsRoomy, IsSame, IsAddedTo, IsAdvancedTo, IsDeliveredTo, IsSettled, IsOrdered, name_of, names_in};
 
 use crate::feed::{Delivery, Feed};
 use crate::search::find;
 use crate::turns::Turns;
 use crate::waiting::Release;
-use news_types::{Memory, Moment, Name};
+use news_types::{Due, Memory, Moment, Name};
 
 /// Takes the memory for one more publication that is due to these subscribers.
 pub fn reserve_all(feeds: &mut Vec<Feed>, names: &[Name], due: &[Name]) -> Result<(), Memory>
@@ -36,70 +36,61 @@ fn reserve_at(feeds: &mut Vec<Feed>, at: usize) -> Result<(), Memory>
     feeds[at].reserve()
 }
 
-/// Puts a publication into the feeds of these subscribers, or among what waits for them.
+/// Puts a publication into the feeds of those to whom it is due, or among what waits for them.
 pub fn add_all(
     feeds: &mut Vec<Feed>,
     turns: &mut Turns,
     names: &[Name],
-    due: &[Name],
-    releases: &[Release],
-    release: Release,
+    number: u32,
+    due: &[Due],
     moment: Moment,
 )
     requires paired { length names.now ≡ vec_len feeds.old }
     requires ascends { Ascends names.now }
     requires named { map name_of feeds.old.items ≡ names.now }
-    requires differ { Differ due.now }
-    requires roomy { All (IsRoomy due.now) feeds.old.items }
-    ensures spread { Spread (IsAddedTo releases.now release moment) due.now feeds.old.items feeds.new.items }
+    requires differ { Differ (names_in due.now) }
+    requires roomy { All (IsRoomy (names_in due.now)) feeds.old.items }
+    ensures spread { Spread (IsAddedTo number moment) due.now feeds.old.items feeds.new.items }
+    ensures names { map name_of feeds.new.items ≡ map name_of feeds.old.items }
     ensures ordered { IsOrdered feeds.old.items turns.old → IsOrdered feeds.new.items turns.new }
 {
-    for name in due {
-        if let Some(at) = find(names, name) {
-            add_at(feeds, turns, releases, at, release, moment);
+    for it in due {
+        if let Some(at) = find(names, &it.subscriber) {
+            let release = Release {
+                moment: it.release,
+                number,
+            };
+            add_at(feeds, turns, at, release, moment);
         }
     }
 }
 
 // Puts a publication into the feed at that place, or among what waits for it.
-fn add_at(
-    feeds: &mut Vec<Feed>,
-    turns: &mut Turns,
-    releases: &[Release],
-    at: usize,
-    release: Release,
-    moment: Moment,
-)
+fn add_at(feeds: &mut Vec<Feed>, turns: &mut Turns, at: usize, release: Release, moment: Moment)
     requires within { at < vec_len feeds.old }
     requires fits { HoldsAt FitsOneMore feeds.old.items at }
-    ensures sets { Sets (IsAddedTo releases.now release moment) at feeds.old.items feeds.new.items }
+    ensures sets { Sets (IsAddedTo release.number moment release.moment) at feeds.old.items feeds.new.items }
     ensures names { map name_of feeds.new.items ≡ map name_of feeds.old.items }
     ensures ordered { Ascends (map name_of feeds.old.items) → IsOrdered feeds.old.items turns.old → IsOrdered feeds.new.items turns.new }
 {
     feeds[at].add(release, moment);
-    settle_at(feeds, turns, releases, at);
+    settle_at(feeds, turns, at);
 }
 
 /// Moves what is released to the rows.
-pub fn advance_all(feeds: &mut Vec<Feed>, turns: &mut Turns, releases: &[Release], moment: Moment)
-    ensures each { EachGoes (IsAdvancedTo releases.now moment) feeds.old.items feeds.new.items }
+pub fn advance_all(feeds: &mut Vec<Feed>, turns: &mut Turns, moment: Moment)
+    ensures each { EachGoes (IsAdvancedTo moment) feeds.old.items feeds.new.items }
     ensures ordered { Ascends (map name_of feeds.old.items) → IsOrdered feeds.old.items turns.old → IsOrdered feeds.new.items turns.new }
 {
     for at in 0..feeds.len() {
-        advance_at(feeds, turns, releases, at, moment);
+        advance_at(feeds, turns, at, moment);
     }
 }
 
 // Moves what is released to the row at that place.
-fn advance_at(
-    feeds: &mut Vec<Feed>,
-    turns: &mut Turns,
-    releases: &[Release],
-    at: usize,
-    moment: Moment,
-)
+fn advance_at(feeds: &mut Vec<Feed>, turns: &mut Turns, at: usize, moment: Moment)
     requires { at < vec_len feeds.old }
-    ensures sets { Sets (IsAdvancedTo releases.now moment) at feeds.old.items feeds.new.items }
+    ensures sets { Sets (IsAdvancedTo moment) at feeds.old.items feeds.new.items }
     ensures names { map name_of feeds.new.items ≡ map name_of feeds.old.items }
     ensures ordered { Ascends (map name_of feeds.old.items) → IsOrdered feeds.old.items turns.old → IsOrdered feeds.new.items turns.new }
 {
@@ -107,44 +98,56 @@ fn advance_at(
         return;
     }
     feeds[at].advance(moment);
-    settle_at(feeds, turns, releases, at);
+    settle_at(feeds, turns, at);
 }
 
 /// Says how the delivery of the feed at that place stands.
-pub fn deliver_at(
-    feeds: &mut Vec<Feed>,
-    turns: &mut Turns,
-    releases: &[Release],
-    at: usize,
-    delivery: Delivery,
-)
+pub fn deliver_at(feeds: &mut Vec<Feed>, turns: &mut Turns, at: usize, delivery: Delivery)
     requires { at < vec_len feeds.old }
-    ensures sets { Sets (IsDeliveredTo releases.now delivery) at feeds.old.items feeds.new.items }
+    ensures sets { Sets (IsDeliveredTo delivery) at feeds.old.items feeds.new.items }
     ensures names { map name_of feeds.new.items ≡ map name_of feeds.old.items }
     ensures ordered { Ascends (map name_of feeds.old.items) → IsOrdered feeds.old.items turns.old → IsOrdered feeds.new.items turns.new }
 {
     feeds[at].deliver(delivery);
-    settle_at(feeds, turns, releases, at);
+    settle_at(feeds, turns, at);
 }
 
 // Puts the feed at that place where it belongs among those that may be pushed.
-fn settle_at(feeds: &mut Vec<Feed>, turns: &mut Turns, releases: &[Release], at: usize)
+fn settle_at(feeds: &mut Vec<Feed>, turns: &mut Turns, at: usize)
     requires { at < vec_len feeds.old }
-    ensures sets { Sets (IsSettled releases.now) at feeds.old.items feeds.new.items }
+    ensures sets { Sets IsSettled at feeds.old.items feeds.new.items }
     ensures names { map name_of feeds.new.items ≡ map name_of feeds.old.items }
     ensures ordered { Ascends (map name_of feeds.old.items) → IsOrdered feeds.old.items turns.old → IsOrdered feeds.new.items turns.new }
 {
     let feed = &mut feeds[at];
-    let turn = feed.ready_at(releases);
+    let turn = feed.ready_at();
     turns.change(feed.name, feed.turn, turn);
     feed.set_turn(turn);
 }
 
-/// Takes a publication out of what waits for them.
-pub fn withdraw_all(feeds: &mut Vec<Feed>, number: u32)
-    ensures { EachGoes (IsWithdrawn number) feeds.old.items feeds.new.items }
+/// Takes publications out of what waits for each of them.
+pub fn withdraw_all(feeds: &mut Vec<Feed>, numbers: &[u32])
+    ensures { EachGoes (IsWithdrawn numbers.now) feeds.old.items feeds.new.items }
 {
     for feed in feeds.iter_mut() {
-        feed.withdraw(number);
+        feed.withdraw(numbers);
     }
+}
+
+/// Takes publications out of what waits for one subscriber.
+pub fn withdraw_one(feeds: &mut Vec<Feed>, names: &[Name], name: &Name, numbers: &[u32])
+    requires { length names.now ≡ vec_len feeds.old }
+    ensures { Ascends names.now → map name_of feeds.old.items ≡ names.now → OneGoes (IsWithdrawn numbers.now) name.now feeds.old.items feeds.new.items }
+{
+    if let Some(at) = find(names, name) {
+        withdraw_at(feeds, at, numbers);
+    }
+}
+
+// Takes publications out of what waits for the one at that place.
+fn withdraw_at(feeds: &mut Vec<Feed>, at: usize, numbers: &[u32])
+    requires { at < vec_len feeds.old }
+    ensures { Sets (IsWithdrawn numbers.now) at feeds.old.items feeds.new.items }
+{
+    feeds[at].withdraw(numbers);
 }

@@ -5,16 +5,19 @@
 mod ask;
 mod changes;
 mod choose;
+mod coming;
 mod deliver;
 mod feed;
 mod feeds;
 mod publish;
 mod queue;
-mod ready;
+mod row;
+mod rows;
 mod search;
 mod setup;
 mod turns;
 mod waiting;
+mod withdraw;
 
 pub use ask::FeedFacts;
 pub use news_types::Ready;

@@ -1,53 +1,53 @@
 //! Publications are added and released.
-ghost use Rattle.std.specs.Prelude.{◌≡◌, ℕ, true, ◌<◌, ◌≤◌, ◌&&◌, not, ◌==◌, nat_lt, nat_le, List, ◌∷◌};
-ghost use Rattle.std.specs.List.{list_any, filter};
+ghost use Rattle.std.specs.Prelude.{◌≡◌, ℕ, true, ◌≤◌, List, ◌∷◌};
+ghost use Rattle.std.specs.List.{list_any};
 ghost use Rattle.news_types.specs.Names.{Bytes, is_in};
-ghost use Rattle.news_types.specs.Members.{Each};
-ghost use Rattle.news_types.specs.Publications.{Pub};
+ghost use Rattle.news_types.specs.Due.{Pub, release_to, is_due};
+ghost use Rattle.news_types.specs.Legal.{is_coming};
 ghost use Rattle.publish_queue.specs.Order.{Differ};
-ghost use Rattle.publish_queue.specs.Keeps.{Keeps, HasRoom};
+ghost use Rattle.publish_queue.specs.Many.{names_in};
+ghost use Rattle.publish_queue.specs.Keeps.{Keeps, HasRoom, IsFair};
 
-use crate::feeds::{add_all, advance_all, withdraw_all};
+use crate::coming::{next_of, next_with};
+use crate::feeds::{add_all, advance_all};
 use crate::queue::Queue;
 use crate::waiting::Release;
-use news_types::{Moment, Name};
+use news_types::{Due, Moment};
 
 impl Queue {
-    /// Adds a publication that is due to these subscribers. It takes no memory.
-    pub fn add(&mut self, number: u32, release: Moment, due: &[Name])
-        requires room { HasRoom self.old due.now }
-        requires differ { Differ due.now }
+    /// Adds a publication with its own release, and that for each of those to whom it is due, which
+    /// is none before its own. It takes no memory.
+    pub fn add(&mut self, number: u32, release: Moment, due: &[Due])
+        requires room { HasRoom self.old (names_in due.now) }
+        requires differ { Differ (names_in due.now) }
         ensures keeps { (names : List Bytes) (ps : List Pub) (m : ℕ) (acked tries tried : Bytes → ℕ) (p : Pub) →
-            Keeps self.old names ps m acked tries tried → m ≤ release → Each (λ (o : Pub). o.number < number) ps →
-            ((s : Bytes) → is_in s due.now ≡ true → is_in s names ≡ true) →
-            p.number ≡ number → p.release ≡ release → ((s : Bytes) → is_in s p.due ≡ is_in s due.now) →
+            Keeps self.old names ps m acked tries tried → m ≤ release → p.number ≡ number → p.release ≡ release →
+            ((s : Bytes) → release_to s p.due ≡ release_to s due.now) → IsFair p → ((s : Bytes) → is_due s p ≡ true → is_in s names ≡ true) →
             Keeps self.new names (p ∷ ps) m acked tries tried }
     {
-        let release = Release {
+        let waiting = Release {
             moment: release,
             number,
         };
-        self.releases.push_reserved(release);
-        self.waiting.add_later(release, self.moment);
+        self.waiting.add_later(waiting, self.moment);
+        self.next = next_with(self.next, release, due, self.moment);
         add_all(
             &mut self.feeds,
             &mut self.turns,
             &self.names,
+            number,
             due,
-            &self.releases,
-            release,
             self.moment,
         );
     }
 
-    /// Whether a publication waits whose release is not past the moment.
+    /// Whether a publication waits that is released by the moment, or one that is to a subscriber.
     pub fn waits_until(&self, moment: Moment) -> bool
         ensures { (names : List Bytes) (ps : List Pub) (m : ℕ) (acked tries tried : Bytes → ℕ) →
-            Keeps self.now names ps m acked tries tried →
-            result ≡ list_any (λ (p : Pub). nat_lt m p.release && nat_le p.release moment) ps }
+            Keeps self.now names ps m acked tries tried → result ≡ list_any (is_coming m moment) ps }
     {
-        match self.waiting.first() {
-            Some(first) => first.moment <= moment,
+        match self.next {
+            Some(next) => next <= moment,
             None => false,
         }
     }
@@ -64,19 +64,8 @@ impl Queue {
             return;
         }
         self.waiting.advance(moment);
-        advance_all(&mut self.feeds, &mut self.turns, &self.releases, moment);
+        advance_all(&mut self.feeds, &mut self.turns, moment);
+        self.next = next_of(&self.waiting, &self.feeds);
         self.moment = moment;
-    }
-
-    /// Withdraws a publication that waits: it will be in no feed. It takes no memory.
-    pub fn withdraw(&mut self, number: u32)
-        ensures keeps { (names : List Bytes) (ps : List Pub) (m : ℕ) (acked tries tried : Bytes → ℕ) →
-            Keeps self.old names ps m acked tries tried → Each (λ (p : Pub). p.number ≡ number → m < p.release) ps →
-            Keeps self.new names (filter (λ (p : Pub). not (p.number == number)) ps) m acked tries tried }
-        ensures room { (due : List Bytes) → HasRoom self.old due → HasRoom self.new due }
-    {
-        self.releases.retain(|release| release.number != number);
-        self.waiting.remove(number);
-        withdraw_all(&mut self.feeds, number);
     }
 }

@@ -6,7 +6,7 @@ ghost use Rattle.publish_queue.specs.Many.{name_of};
 
 use crate::feed::Feed;
 use crate::turns::Turns;
-use crate::waiting::{Release, WaitingList};
+use crate::waiting::WaitingList;
 use news_types::{Moment, Name};
 use std::alloc::Global;
 
@@ -19,10 +19,10 @@ pub struct Queue {
     pub(crate) names: Vec<Name>,
     /// Their feeds, in the same order.
     pub(crate) feeds: Vec<Feed>,
-    /// Every publication that waits, whoever it is due to.
+    /// The publications whose own release is still to come, whoever they are due to.
     pub(crate) waiting: WaitingList,
-    /// When each publication is released, in the order of their numbers.
-    pub(crate) releases: Vec<Release>,
+    /// The next moment at which a publication is released, or is to a subscriber.
+    pub(crate) next: Option<Moment>,
     /// The feeds that may be pushed, in the order of their turns.
     pub(crate) turns: Turns,
     ghost paired: { vec_len names ≡ vec_len feeds },

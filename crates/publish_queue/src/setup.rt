@@ -1,7 +1,7 @@
 //! Subscribers are added, and memory is taken.
 ghost use Rattle.std.specs.Prelude.{◌≡◌, ℕ, false, List, [], ◌∷◌, IfOk, OnOk, refl};
 ghost use Rattle.news_types.specs.Names.{Bytes, is_in};
-ghost use Rattle.news_types.specs.Publications.{Pub};
+ghost use Rattle.news_types.specs.Due.{Pub};
 ghost use Rattle.publish_queue.specs.Keeps.{Keeps, HasRoom, HasSpare};
 
 use crate::feed::Feed;
@@ -24,7 +24,7 @@ impl Queue {
             names: Vec::new(alloc),
             feeds: Vec::new(alloc),
             waiting: WaitingList::new(alloc),
-            releases: Vec::new(alloc),
+            next: None,
             turns: Turns::new(alloc),
         })
     }
@@ -50,7 +50,6 @@ impl Queue {
         ensures spare { HasSpare self.old → HasSpare self.new }
     {
         self.waiting.reserve()?;
-        self.releases.reserve(1)?;
         reserve_all(&mut self.feeds, &self.names, due)
     }
 

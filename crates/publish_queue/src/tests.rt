@@ -1,5 +1,5 @@
 use crate::{FeedFacts, Queue, Ready};
-use news_types::{Memory, Moment, Name};
+use news_types::{Due, Memory, Moment, Name};
 use std::alloc::Global;
 
 const LAST_MOMENT: Moment = 253_402_300_799;
@@ -14,10 +14,50 @@ fn queue_of(alloc: Global, alpha: Name, beta: Name) -> Result<Queue, Memory> {
     Ok(queue)
 }
 
-/// Adds a publication that is due to one subscriber.
+/// Adds a publication that is due to one subscriber, at its own release.
 fn publish(queue: &mut Queue, number: u32, release: Moment, to: Name) -> Result<(), Memory> {
-    let due = [to];
-    queue.reserve_for(&due)?;
+    publish_later(queue, number, release, to, release)
+}
+
+/// Adds a publication that is due to one subscriber, at a release for this one.
+fn publish_later(
+    queue: &mut Queue,
+    number: u32,
+    release: Moment,
+    to: Name,
+    later: Moment,
+) -> Result<(), Memory> {
+    let due = [Due {
+        subscriber: to,
+        release: later,
+    }];
+    queue.reserve_for(&[to])?;
+    queue.add(number, release, &due);
+    Ok(())
+}
+
+/// Adds a publication that is due to two subscribers, at a release for each.
+fn publish_to_both(
+    queue: &mut Queue,
+    number: u32,
+    release: Moment,
+    first: (Name, Moment),
+    second: (Name, Moment),
+) -> Result<(), Memory> {
+    if first.0 == second.0 {
+        return Ok(());
+    }
+    let due = [
+        Due {
+            subscriber: first.0,
+            release: first.1,
+        },
+        Due {
+            subscriber: second.0,
+            release: second.1,
+        },
+    ];
+    queue.reserve_for(&[first.0, second.0])?;
     queue.add(number, release, &due);
     Ok(())
 }
@@ -170,4 +210,78 @@ fn what_is_withdrawn_is_never_released(rt: HostRuntime) {
     assert_eq!(rt; queue.number(&alpha, 1), Some(1));
     assert_eq!(rt; queue.number(&alpha, 2), Some(3));
     assert_eq!(rt; queue.facts(&alpha), facts_of(2, 0, 0, false));
+}
+
+#[test]
+fn a_lag_lets_a_subscriber_wait(rt: HostRuntime) {
+    let alpha = Name::read("alpha").expect(&rt, "a name");
+    let beta = Name::read("beta").expect(&rt, "a name");
+    let mut queue = queue_of(rt.alloc(), alpha, beta).expect(&rt, "memory");
+    queue.advance(1000);
+    publish_to_both(&mut queue, 1, 1000, (alpha, 1000), (beta, 1600)).expect(&rt, "memory");
+    assert_eq!(rt; queue.facts(&alpha), facts_of(1, 0, 0, false));
+    assert_eq!(rt; queue.facts(&beta), facts_of(0, 0, 0, true));
+    assert!(rt; !queue.waits_until(1599));
+    assert!(rt; queue.waits_until(1600));
+    assert!(rt; queue.next_ready(&[alpha, beta], 1000) == now_of(alpha, 1));
+    assert!(rt; queue.next_ready(&[beta], 1000) == later_at(Some(1600)));
+
+    // It may be pushed from its release for the subscriber on.
+    queue.advance(1600);
+    assert_eq!(rt; queue.facts(&beta), facts_of(1, 0, 0, false));
+    assert!(rt; queue.next_ready(&[beta], 1599) == later_at(Some(1600)));
+    assert!(rt; queue.next_ready(&[beta], 1600) == now_of(beta, 1));
+    assert!(rt; !queue.waits_until(LAST_MOMENT));
+}
+
+#[test]
+fn its_own_release_comes_before_a_lag(rt: HostRuntime) {
+    let alpha = Name::read("alpha").expect(&rt, "a name");
+    let beta = Name::read("beta").expect(&rt, "a name");
+    let mut queue = queue_of(rt.alloc(), alpha, beta).expect(&rt, "memory");
+    publish_later(&mut queue, 1, 1000, alpha, 1600).expect(&rt, "memory");
+    assert!(rt; queue.waits_until(1000));
+    queue.advance(1000);
+    assert_eq!(rt; queue.facts(&alpha), facts_of(0, 0, 0, true));
+    assert!(rt; !queue.waits_until(1599));
+    assert!(rt; queue.waits_until(1600));
+}
+
+#[test]
+fn a_kill_takes_back_what_was_not_given(rt: HostRuntime) {
+    let alpha = Name::read("alpha").expect(&rt, "a name");
+    let beta = Name::read("beta").expect(&rt, "a name");
+    let mut queue = queue_of(rt.alloc(), alpha, beta).expect(&rt, "memory");
+    queue.advance(1000);
+    publish_to_both(&mut queue, 1, 1000, (alpha, 1000), (beta, 1600)).expect(&rt, "memory");
+    publish_later(&mut queue, 2, 1000, beta, 1700).expect(&rt, "memory");
+
+    queue.advance(1300);
+    queue.take_back(&[1]);
+    publish(&mut queue, 3, 1300, alpha).expect(&rt, "memory");
+    assert_eq!(rt; queue.facts(&alpha), facts_of(2, 0, 0, false));
+    assert_eq!(rt; queue.number(&alpha, 1), Some(1));
+    assert_eq!(rt; queue.number(&alpha, 2), Some(3));
+    // What is of another item still waits.
+    assert!(rt; !queue.waits_until(1699));
+    queue.advance(1700);
+    assert_eq!(rt; queue.facts(&beta), facts_of(1, 0, 0, false));
+    assert_eq!(rt; queue.number(&beta, 1), Some(2));
+}
+
+#[test]
+fn one_subscriber_waits_no_more(rt: HostRuntime) {
+    let alpha = Name::read("alpha").expect(&rt, "a name");
+    let beta = Name::read("beta").expect(&rt, "a name");
+    let gamma = Name::read("gamma").expect(&rt, "a name");
+    let mut queue = queue_of(rt.alloc(), alpha, beta).expect(&rt, "memory");
+    publish_to_both(&mut queue, 1, 1000, (alpha, 2000), (beta, 2000)).expect(&rt, "memory");
+    queue.withdraw_for(&beta, 1);
+    queue.withdraw_for(&gamma, 1);
+    assert_eq!(rt; queue.facts(&alpha), facts_of(0, 0, 0, true));
+    assert_eq!(rt; queue.facts(&beta), facts_of(0, 0, 0, false));
+    assert!(rt; queue.waits_until(1000));
+    queue.withdraw_for(&alpha, 1);
+    queue.advance(1000);
+    assert!(rt; !queue.waits_until(LAST_MOMENT));
 }

@@ -1,11 +1,18 @@
 //! Publications that wait, in the order in which they are released.
 ghost use Rattle.std.specs.Prelude.{◌≡◌, ◌+◌, ◌<◌, ◌≤◌, [], ◌∷◌, OnOk, MatchOption, option_copied, slice_get};
 ghost use Rattle.std.specs.VecDeque.{deque_len, deque_capacity};
-ghost use Rattle.publish_queue.specs.Rows.{placed, left, without, Rising, FirstIsLater};
+ghost use Rattle.publish_queue.specs.Rows.{placed, left, without, is_among, next_in, Rising, FirstIsLater};
 
 use news_types::Moment;
 use std::alloc::{AllocError, Global};
 use std::collections::VecDeque;
+
+// Whether it is one of these numbers.
+fn is_among(number: u32, numbers: &[u32]) -> bool
+    ensures { result ≡ is_among number numbers.now }
+{
+    numbers.iter().any(|other| number == *other)
+}
 
 /// When a publication is released.
 #[derive(Clone, Copy)]
@@ -78,13 +85,21 @@ impl WaitingList {
         }
     }
 
-    /// Takes out the release of a publication.
-    pub fn remove(&mut self, number: u32)
-        ensures releases { self.new.releases.items ≡ without number self.old.releases.items }
+    /// Takes out the releases of publications.
+    pub fn remove(&mut self, numbers: &[u32])
+        ensures releases { self.new.releases.items ≡ without numbers.now self.old.releases.items }
         ensures len { deque_len self.new.releases ≤ deque_len self.old.releases }
         ensures capacity { deque_capacity self.new.releases ≡ deque_capacity self.old.releases }
     {
-        self.releases.retain(|release| release.number != number);
+        self.releases
+            .retain(|release| !is_among(release.number, numbers));
+    }
+
+    /// The moment of the release that comes next.
+    pub fn next(&self) -> Option<Moment>
+        ensures { result ≡ next_in self.now.releases.items }
+    {
+        Some(self.first()?.moment)
     }
 
     /// Takes out what is released at the moment.

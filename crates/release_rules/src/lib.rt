@@ -5,7 +5,7 @@ mod delays;
 mod reading;
 mod writing;
 
-pub use delays::{release, retry_delay};
+pub use delays::{lagged, release, retry_delay};
 pub use reading::moment_of_text;
 pub use writing::{MomentText, text_of_moment};
 

@@ -1,16 +1,15 @@
 //! Text to moments.
-ghost use Rattle.std.specs.Prelude.{◌≡◌, ◌↔◌, ℕ, ◌<◌, ◌≤◌, ℤ, pos, neg_ℤ, ◌+◌, ◌*◌, IfSome, length, take, drop};
+ghost use Rattle.std.specs.Prelude.{◌≡◌, ◌↔◌, ℕ, ◌<◌, ◌≤◌, IfSome, length, take, drop};
 ghost use Rattle.std.specs.Char.{is_ascii_digit};
 ghost use Rattle.std.specs.List.{prefix_len};
 ghost use Rattle.std.specs.Option.{option_copied};
 ghost use Rattle.jiff_core.specs.Calendar.{IsWithin};
-ghost use Rattle.news_types.specs.Clock.{pair_number, clock_of};
 ghost use Rattle.release_rules.specs.Civil.{civil, IsEpochSecond};
 ghost use Rattle.release_rules.specs.Texts.{IsTextOf};
 ghost use Rattle.release_rules.specs.Reader.{date_at, time_at, clock_seconds_of, seconds_at, behind_fraction, offset_at, in_range, moment_of};
 
 use jiff::civil::DateTime;
-use news_types::Moment;
+use news_types::{Moment, offset_seconds, two_digits};
 
 /// The last moment that has a text, 9999-12-31T23:59:59Z.
 const LAST_MOMENT: i64 = 253_402_300_799;
@@ -31,8 +30,8 @@ fn moment_of_bytes(text: &[u8]) -> Option<Moment>
 {
     let (clock, zone) = text.split_at_checked(19)?;
     let seconds = clock_seconds(clock)?;
-    let offset = offset_seconds(after_fraction(zone)?)?;
-    moment_in_range(seconds - offset)
+    let offset = zone_seconds(after_fraction(zone)?)?;
+    moment_in_range(seconds - i64::from(offset))
 }
 
 /// The seconds from 1970-01-01T00:00:00 to `YYYY-MM-DDThh:mm:ss`.
@@ -61,10 +60,10 @@ fn date_parts(text: &[u8]) -> Option<(u16, u8, u8)>
     let [y1, y2, y3, y4, b'-', m1, m2, b'-', d1, d2] = text else {
         return None;
     };
-    let century = pair(*y1, *y2)?;
-    let year = pair(*y3, *y4)?;
-    let month = pair(*m1, *m2)?;
-    let day = pair(*d1, *d2)?;
+    let century = two_digits(*y1, *y2)?;
+    let year = two_digits(*y3, *y4)?;
+    let month = two_digits(*m1, *m2)?;
+    let day = two_digits(*d1, *d2)?;
     Some((century as u16 * 100 + year as u16, month, day))
 }
 
@@ -76,7 +75,11 @@ fn time_parts(text: &[u8]) -> Option<(u8, u8, u8)>
     let [b'T', h1, h2, b':', m1, m2, b':', s1, s2] = text else {
         return None;
     };
-    Some((pair(*h1, *h2)?, pair(*m1, *m2)?, pair(*s1, *s2)?))
+    Some((
+        two_digits(*h1, *h2)?,
+        two_digits(*m1, *m2)?,
+        two_digits(*s1, *s2)?,
+    ))
 }
 
 /// A date and a time of day as they are written, which no calendar or clock need have.
@@ -88,18 +91,6 @@ struct Clock {
     hour: u8,
     minute: u8,
     second: u8,
-}
-
-/// Two digits as a number.
-fn pair(tens: u8, ones: u8) -> Option<u8>
-    ensures value { result ≡ pair_number tens ones }
-    ensures below { IfSome result (λ n. n < 100) }
-{
-    if tens.is_ascii_digit() && ones.is_ascii_digit() {
-        Some((tens - b'0') * 10 + (ones - b'0'))
-    } else {
-        None
-    }
 }
 
 /// The seconds from 1970-01-01T00:00:00 to the date and time, where a calendar and a clock have them.
@@ -151,40 +142,17 @@ fn digit_count(text: &[u8]) -> usize
 }
 
 /// How many seconds a clock is ahead of UTC.
-fn offset_seconds(text: &[u8]) -> Option<i64>
+fn zone_seconds(text: &[u8]) -> Option<i32>
     ensures value { result ≡ offset_at text.now }
     ensures bound { IfSome result (IsWithin 86_340) }
 {
     match text {
         b"Z" => Some(0),
-        [sign, h1, h2, m1, m2] => signed_seconds(*sign, pair(*h1, *h2)?, pair(*m1, *m2)?),
-        [sign, h1, h2, b':', m1, m2] => signed_seconds(*sign, pair(*h1, *h2)?, pair(*m1, *m2)?),
+        [sign, h1, h2, m1, m2] | [sign, h1, h2, b':', m1, m2] => {
+            offset_seconds(*sign, two_digits(*h1, *h2)?, two_digits(*m1, *m2)?)
+        }
         _ => None,
     }
-}
-
-/// Hours and minutes as seconds, with their sign.
-fn signed_seconds(sign: u8, hours: u8, minutes: u8) -> Option<i64>
-    ensures value { result ≡ clock_of sign hours minutes }
-    ensures bound { IfSome result (IsWithin 86_340) }
-{
-    if hours > 23 || minutes > 59 {
-        return None;
-    }
-    let seconds = hours as u32 * 3600 + minutes as u32 * 60;
-    match sign {
-        b'+' => Some(seconds as i64),
-        b'-' => Some(negative(seconds)),
-        _ => None,
-    }
-}
-
-fn negative(n: u32) -> i64
-    requires { n ≤ 86_340 }
-    ensures value { result ≡ neg_ℤ (pos n) }
-    ensures bound { IsWithin 86_340 result }
-{
-    -(n as i64)
 }
 
 /// The moment at these seconds from 1970, where it is one.

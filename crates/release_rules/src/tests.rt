@@ -1,4 +1,4 @@
-use crate::{moment_of_text, release, retry_delay, text_of_moment};
+use crate::{lagged, moment_of_text, release, retry_delay, text_of_moment};
 use news_types::Moment;
 use std::test::Fail;
 
@@ -26,6 +26,27 @@ fn delays(rt: HostRuntime) -> Result<(), Fail> {
 
 fn delay_of(n: u32) -> Option<u64> {
     if n >= 1 { Some(retry_delay(n)) } else { None }
+}
+
+const LAGS: [(Moment, u32, Moment, Moment); 6] = [
+    (1000, 0, 0, 1000),
+    (1000, 600, 0, 1600),
+    (1300, 600, 1600, 1900),
+    (1500, 0, 1600, 1600),
+    (LAST_MOMENT, 604_800, 0, LAST_MOMENT),
+    (Moment::MAX, 604_800, 0, Moment::MAX),
+];
+
+#[test]
+fn lags(rt: HostRuntime) -> Result<(), Fail> {
+    for (moment, lag, earlier, expected) in LAGS {
+        assert_eq!(rt;
+            lagged(moment, lag, earlier),
+            expected,
+            "{moment} by {lag} from {earlier}"
+        );
+    }
+    Ok(())
 }
 
 const RELEASES: [(Moment, Option<Moment>, Option<Moment>, Moment); 6] = [

@@ -56,13 +56,13 @@ pub fn text_of_moment(moment: Moment) -> MomentText
     let year = year_number(shown.date);
     let date = shown.date;
     let time = shown.time;
-    let [y1, y2] = two_digits((year / 100) as u8);
-    let [y3, y4] = two_digits((year % 100) as u8);
-    let [m1, m2] = two_digits(date.month);
-    let [d1, d2] = two_digits(date.day);
-    let [h1, h2] = two_digits(time.hour);
-    let [i1, i2] = two_digits(time.minute);
-    let [s1, s2] = two_digits(time.second);
+    let [y1, y2] = digits_of((year / 100) as u8);
+    let [y3, y4] = digits_of((year % 100) as u8);
+    let [m1, m2] = digits_of(date.month);
+    let [d1, d2] = digits_of(date.day);
+    let [h1, h2] = digits_of(time.hour);
+    let [i1, i2] = digits_of(time.minute);
+    let [s1, s2] = digits_of(time.second);
     MomentText {
         bytes: [
             y1, y2, y3, y4, b'-', m1, m2, b'-', d1, d2, b'T', h1, h2, b':', i1, i2, b':', s1, s2,
@@ -89,7 +89,7 @@ fn year_number(date: Date) -> u16
 }
 
 /// A number below 100 in two digits.
-fn two_digits(n: u8) -> [u8; 2]
+fn digits_of(n: u8) -> [u8; 2]
     requires { n < 100 }
     ensures { result ≡ two n }
 {

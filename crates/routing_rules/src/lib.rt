@@ -9,12 +9,14 @@
 mod actions;
 mod judge;
 mod routing;
+mod rows;
 mod span;
 mod zone;
 
 pub use actions::Actions;
 pub use judge::judge_scheme;
-pub use routing::Routes;
+pub use routing::{Routes, route};
+pub use rows::{clocks_of_zones, zones_by_name};
 
 #[cfg(test)]
 mod tests;

@@ -88,6 +88,21 @@ impl Routes {
     }
 }
 
+/// The actions of the rules of a scheme that apply to the story at the moment, as `Routes::route` gives them. Who
+/// routes more than one story by a scheme makes its `Routes` once.
+pub fn route(
+    scheme: &Scheme,
+    filters: &Filters,
+    story: &Story,
+    moment: Moment,
+) -> Result<Actions, Memory>
+    requires { IsTrue (said.is_scheme scheme.now) }
+    ensures { IfOk result (λ actions. (h : History) → KeepsFacts filters.now h → actions ≡ said.routed h scheme.now story.now moment) }
+{
+    let routes = Routes::of(filters.allocator(), scheme.copy()?)?;
+    routes.route(filters, story, moment)
+}
+
 /// The zones that the rules name, in order.
 fn zones_of(alloc: Global, rules: &[Rule]) -> Result<Vec<TimeZone<'static>>, Memory>
     requires { IsTrue (list_all said.is_rule rules.now) }

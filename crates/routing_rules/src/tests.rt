@@ -1,4 +1,4 @@
-use crate::{Actions, Routes, judge_scheme};
+use crate::{Actions, judge_scheme, route};
 use content_filters::Filters;
 use news_types::{
     Command, Field, Media, Memory, Moment, Name, Names, Op, Place, RouteAction, Rule, Scheme,
@@ -59,6 +59,7 @@ fn story(alloc: Global, urgency: u8) -> Result<Story, Memory> {
         category: Text::copy_of(alloc, "")?,
         body: Text::copy_of(alloc, "")?,
         html: false,
+        copyright: Text::copy_of(alloc, "")?,
     })
 }
 
@@ -94,9 +95,8 @@ fn is_asked(
     if !judge_scheme(&scheme)? {
         return Ok(false);
     }
-    let routes = Routes::of(alloc, scheme)?;
     let story = story(alloc, urgency)?;
-    let actions = routes.route(filters, &story, moment)?;
+    let actions = route(&scheme, filters, &story, moment)?;
     Ok(words(alloc, &actions)?.as_str() == expected)
 }
 
@@ -311,7 +311,7 @@ fn rules_up_to_the_first_exit(rt: HostRuntime) -> Result<(), Fail> {
 }
 
 // Days, spans and zones of rules that publish to a desk, and whether a scheme of each may be given.
-const JUDGED: [(u8, u32, u32, &str, bool); 12] = [
+const JUDGED: [(u8, u32, u32, &str, bool); 16] = [
     (127, 0, 86_400, "UTC0", true),
     (1, 86_399, 86_400, "+23:59", true),
     (64, 0, 1, "EST5EDT,M3.2.0,M11.1.0", true),
@@ -324,6 +324,10 @@ const JUDGED: [(u8, u32, u32, &str, bool); 12] = [
     (127, 0, 86_400, "+00:60", false),
     (127, 0, 86_400, "+2:00", false),
     (127, 0, 86_400, "EST5EDT", false),
+    (127, 0, 86_400, "AB1", false),
+    (127, 0, 86_400, "ABC1", true),
+    (127, 0, 86_400, "ABCDEFGHIJKLMNO1", true),
+    (127, 0, 86_400, "ABCDEFGHIJKLMNOP1", false),
 ];
 
 fn judged(alloc: Global, rows: &[Row]) -> Result<bool, Memory> {

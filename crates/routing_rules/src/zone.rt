@@ -1,12 +1,12 @@
 //! Zones as rules name them, and the local day in them.
-ghost use Rattle.std.specs.Prelude.{◌≡◌, ℕ, ℤ, pos, neg_ℤ, ◌<◌, ◌≤◌, min, IsTrue, IfSome, Some, option_map};
+ghost use Rattle.std.specs.Prelude.{◌≡◌, ℕ, ℤ, pos, ◌<◌, min, IsTrue, IfSome, option_map};
 ghost use Rattle.jiff_core.specs.Calendar.{IsWithin};
 ghost use Rattle.jiff_core.specs.Time.{time_seconds};
 ghost use Rattle.jiff_core.specs.Weekday.{monday_zero};
 ghost use Rattle.jiff_core.specs.Timestamp.{nanos_of_seconds};
 ghost use Rattle.jiff_tz.specs.Zone.{offset_at};
 ghost use Rattle.jiff.specs.ZoneView.{plain_zone};
-ghost use Rattle.news_types.specs.Clock.{local_of, zone_offset, last_local, fixed_of, pair_number};
+ghost use Rattle.news_types.specs.Clock.{local_of, zone_offset, last_local, fixed_of};
 ghost use Rattle.news_types.specs.Routing as said;
 ghost use Rattle.routing_rules.specs.Zones.{NamesZone};
 
@@ -14,7 +14,7 @@ use jiff::Timestamp;
 use jiff::civil::Weekday;
 use jiff::tz::{Offset, TimeZone};
 use jiff_core::civil;
-use news_types::Moment;
+use news_types::{Moment, offset_seconds, two_digits};
 
 /// The last moment that has a local day in every zone.
 const LAST_LOCAL: Moment = 253_402_207_200;
@@ -42,9 +42,9 @@ pub(crate) fn local(zone: &TimeZone<'_>, moment: Moment) -> (u8, u32)
     ensures value { result ≡ local_of moment (offset_at (plain_zone zone.now) (nanos_of_seconds (pos (min moment last_local)))) }
     ensures day { result.0 < 7 }
 {
-    let kept = moment.min(LAST_LOCAL);
-    let Ok(instant) = Timestamp::from_second(kept as i64) else {
-        return (0, 0);
+    let instant = match Timestamp::from_second(moment.min(LAST_LOCAL) as i64) {
+        Ok(instant) => instant,
+        Err(_) => unreachable!(),
     };
     let shown = zone.to_datetime(instant).to_plain();
     (
@@ -78,18 +78,18 @@ fn read_zone(text: &str) -> Option<TimeZone<'static>>
     ensures { (n : ℤ) → option_map (λ zone. offset_at (plain_zone zone) n) result ≡ zone_offset text.now n }
 {
     match fixed_seconds(text.as_bytes()) {
-        Some(seconds) => fixed_zone(seconds),
+        Some(seconds) => Some(fixed_zone(seconds)),
         None => TimeZone::posix(text).ok(),
     }
 }
 
-fn fixed_zone(seconds: i32) -> Option<TimeZone<'static>>
+fn fixed_zone(seconds: i32) -> TimeZone<'static>
     requires { IsWithin 86_340 seconds }
-    ensures { (n : ℤ) → option_map (λ zone. offset_at (plain_zone zone) n) result ≡ Some seconds }
+    ensures { (n : ℤ) → offset_at (plain_zone result) n ≡ seconds }
 {
     match Offset::from_seconds(seconds) {
-        Ok(offset) => Some(TimeZone::fixed(offset)),
-        Err(_) => None,
+        Ok(offset) => TimeZone::fixed(offset),
+        Err(_) => unreachable!(),
     }
 }
 
@@ -103,34 +103,5 @@ fn fixed_seconds(text: &[u8]) -> Option<i32>
     if *colon != b':' {
         return None;
     }
-    let hours = pair(*a, *b)?;
-    let minutes = pair(*d, *e)?;
-    if hours > 23 || minutes > 59 {
-        return None;
-    }
-    let seconds = hours as u32 * 3600 + minutes as u32 * 60;
-    match *sign {
-        b'+' => Some(seconds as i32),
-        b'-' => Some(negative(seconds)),
-        _ => None,
-    }
-}
-
-fn negative(n: u32) -> i32
-    requires { n ≤ 86_340 }
-    ensures value { result ≡ neg_ℤ (pos n) }
-    ensures bound { IsWithin 86_340 result }
-{
-    -(n as i32)
-}
-
-/// Two digits as a number.
-fn pair(tens: u8, ones: u8) -> Option<u8>
-    ensures { result ≡ pair_number tens ones }
-{
-    if tens.is_ascii_digit() && ones.is_ascii_digit() {
-        Some((tens - b'0') * 10 + (ones - b'0'))
-    } else {
-        None
-    }
+    offset_seconds(*sign, two_digits(*a, *b)?, two_digits(*d, *e)?)
 }

@@ -3,3 +3,4 @@ pub mod Sizes
 pub mod Runs
 pub mod Ahead
 pub mod Undecided
+pub mod Messages

@@ -7,7 +7,7 @@ use Rattle.std.proofs.lemmas.Bool.Decides.{nat_tests}
 use Rattle.std.proofs.lemmas.List.{append-nil, take_all, take_more}
 use Rattle.std.proofs.lemmas.List.Sums.{length-filter}
 use Rattle.std.proofs.lemmas.Str.{encodes-append, length-encode, len_utf8_ascii}
-use Rattle.text7901.specs.Fields.{lead, past, before, behind, trim_front, without_last_lf, utf8}
+use Rattle.text7901.specs.Fields.{lead, past, before, behind_byte, trim_front, without_last_lf, utf8}
 
 one_more : (n : ℕ) → 1 + n ≡ suc n
 one_more n = omega arith
@@ -43,7 +43,7 @@ pub before_first : (x : ℕ) (xs ys : List ℕ) → IsWithout x xs → before x 
 before_first x [] ys h = rw (eq-eqb x x refl) refl
 before_first x (y ∷ xs) ys h = rw (ne_eqb y x h.0) (ap (λ z. y ∷ z) (before_first x xs ys h.1))
 
-pub behind_first : (x : ℕ) (xs ys : List ℕ) → IsWithout x xs → behind x (xs ++ x ∷ ys) ≡ ys
+pub behind_first : (x : ℕ) (xs ys : List ℕ) → IsWithout x xs → behind_byte x (xs ++ x ∷ ys) ≡ ys
 behind_first x [] ys h = rw (eq-eqb x x refl) refl
 behind_first x (y ∷ xs) ys h = rw (ne_eqb y x h.0) (behind_first x xs ys h.1)
 
@@ -51,7 +51,7 @@ pub before_none : (x : ℕ) (xs : List ℕ) → IsWithout x xs → before x xs �
 before_none x [] h = refl
 before_none x (y ∷ xs) h = rw (ne_eqb y x h.0) (ap (λ z. y ∷ z) (before_none x xs h.1))
 
-pub behind_none : (x : ℕ) (xs : List ℕ) → IsWithout x xs → behind x xs ≡ []
+pub behind_none : (x : ℕ) (xs : List ℕ) → IsWithout x xs → behind_byte x xs ≡ []
 behind_none x [] h = refl
 behind_none x (y ∷ xs) h = rw (ne_eqb y x h.0) (behind_none x xs h.1)
 
@@ -105,8 +105,8 @@ place_none x xs e =
 pub before_place : (x : ℕ) (xs : List ℕ) (i : ℕ) → IsPlace x xs i → take i xs ≡ before x xs
 before_place x xs i h = sym (ap (before x) h.split ∙ before_first x (take i xs) (drop (i + 1) xs) h.none)
 
-pub behind_place : (x : ℕ) (xs : List ℕ) (i : ℕ) → IsPlace x xs i → drop (i + 1) xs ≡ behind x xs
-behind_place x xs i h = sym (ap (behind x) h.split ∙ behind_first x (take i xs) (drop (i + 1) xs) h.none)
+pub behind_place : (x : ℕ) (xs : List ℕ) (i : ℕ) → IsPlace x xs i → drop (i + 1) xs ≡ behind_byte x xs
+behind_place x xs i h = sym (ap (behind_byte x) h.split ∙ behind_first x (take i xs) (drop (i + 1) xs) h.none)
 
 -- ---- blanks at the ends
 

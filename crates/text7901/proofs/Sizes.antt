@@ -8,7 +8,7 @@ use Rattle.std.proofs.lemmas.List.Elements.{All-append, All-cons}
 use Rattle.std.proofs.lemmas.Str.{length-encode, len_utf8_ascii}
 use Rattle.std.specs.Prelude.{Result, Ok, Err, IfOk}
 use Rattle.news_types.specs.declared.story.Incoming.{Incoming}
-use Rattle.text7901.specs.Fields.{letter, digit, lead, past, before, behind, begins_line, with_lf, without_last_lf, utf8, is_short, fitting, is_urgency, urgency, behind_urgency, category_in, body, ends_field, story_of, lines_of, incoming, first_line, head, trim, text, named}
+use Rattle.text7901.specs.Fields.{letter, digit, lead, past, before, behind_byte, begins_line, with_lf, without_last_lf, utf8, is_short, fitting, is_urgency, urgency, behind_urgency, category_in, body, ends_field, story_of, lines_of, incoming, first_line, head, trim, text, named}
 use Rattle.news_types.specs.Fits.{FitsStory, FitsIncoming}
 use Rattle.text7901.proofs.Parts.{utf8_length}
 
@@ -21,7 +21,7 @@ before_length x (y ∷ xs) =
     let h = before_length x xs in
     elim (cases_Bool (eqb y x)) [ inl e ↦ rw e (omega arith) | inr e ↦ rw e (omega (arith, h)) ]
 
-pub behind_length : (x : ℕ) (xs : List ℕ) → length (behind x xs) ≤ length xs
+pub behind_length : (x : ℕ) (xs : List ℕ) → length (behind_byte x xs) ≤ length xs
 behind_length x [] = omega arith
 behind_length x (y ∷ xs) =
     let h = behind_length x xs in
@@ -101,7 +101,7 @@ urgency_most (space ∷ b ∷ line) =
 pub utf8_most : (xs : List ℕ) → ((k : ℕ) → k < length xs → get_or xs k 0 < 256) → length (utf8 xs) ≤ 2 * length xs
 utf8_most xs h = let e = utf8_length xs h in omega (arith, e, count_by-le-length (λ b. nat_le 128 b) xs)
 
-pub story_fits : (line slug lines : List ℕ) → length (body lines) ≤ 262144 → FitsStory (story_of line slug lines)
+pub story_fits : (line slug lines : List ℕ) → length (body lines) ≤ 524288 → FitsStory (story_of line slug lines)
 story_fits line slug lines h = record {
   urgency = urgency_most line;
   slugline = short_length slug;
@@ -110,6 +110,7 @@ story_fits line slug lines h = record {
   language = omega arith;
   category = category_length (behind_urgency line);
   body = h;
+  copyright = omega arith;
 }
 
 pub if_ok : {A E : Type 0} (r : Result A E) (P Q : A → Type 0) → ((x : A) → P x → Q x) → IfOk r P → IfOk r Q
@@ -130,17 +131,17 @@ pub text_length : (bytes : List ℕ) → length (text bytes) ≤ length bytes
 text_length bytes =
     let one = past letter 8 bytes in
     let two = past digit 8 one in
-    omega (arith, past_length letter 8 bytes, past_length digit 8 one, behind_length 2 two, before_length 3 (behind 2 two))
+    omega (arith, past_length letter 8 bytes, past_length digit 8 one, behind_length 2 two, before_length 3 (behind_byte 2 two))
 
 -- within the limits, where the body is
 pub incoming_fits : (told : Incoming) (bytes : List ℕ) → told ≡ incoming bytes → length told.story.body ≤ 2 * length bytes → length bytes ≤ 131071 → FitsIncoming told
 incoming_fits told bytes e h le =
-    let small : length (incoming bytes).story.body ≤ 262144 = omega (arith, ap (λ i. length i.story.body) e, h, le) in
+    let small : length (incoming bytes).story.body ≤ 524288 = omega (arith, ap (λ i. length i.story.body) e, h, le) in
     subst FitsIncoming (sym e) (record {
       identity = fitting_length 256 (named bytes);
       created = omega arith;
       embargo = omega arith;
-      story = story_fits (first_line (head bytes)) (trim (behind 10 (head bytes))) (lines_of (text bytes)) small;
+      story = story_fits (first_line (head bytes)) (trim (behind_byte 10 (head bytes))) (lines_of (text bytes)) small;
     })
 
 pub all_more : {X : Type 0} (P : X → Type 0) (xs ys : List X) (x : X) → All P xs → P x → ys ≡ xs ++ x ∷ [] → All P ys

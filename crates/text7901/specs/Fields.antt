@@ -37,9 +37,9 @@ before x [] = []
 before x (b ∷ bytes) = if b == x then [] else b ∷ before x bytes
 
 -- what stands behind the first such byte: nothing where there is none
-abbrev pub behind : ℕ → List ℕ → List ℕ
-behind x [] = []
-behind x (b ∷ bytes) = if b == x then bytes else behind x bytes
+abbrev pub behind_byte : ℕ → List ℕ → List ℕ
+behind_byte x [] = []
+behind_byte x (b ∷ bytes) = if b == x then bytes else behind_byte x bytes
 
 -- without the leading blanks
 abbrev pub trim_front : List ℕ → List ℕ
@@ -96,14 +96,14 @@ abbrev pub head : List ℕ → List ℕ
 head bytes = before 2 (past digit 8 (past letter 8 bytes))
 
 abbrev pub behind_head : List ℕ → List ℕ
-behind_head bytes = behind 2 (past digit 8 (past letter 8 bytes))
+behind_head bytes = behind_byte 2 (past digit 8 (past letter 8 bytes))
 
 abbrev pub text : List ℕ → List ℕ
 text bytes = before 3 (behind_head bytes)
 
 -- the post-text information
 abbrev pub info : List ℕ → List ℕ
-info bytes = behind 3 (behind_head bytes)
+info bytes = behind_byte 3 (behind_head bytes)
 
 -- ---- the rest of the header line
 
@@ -144,7 +144,7 @@ abbrev pub headline : List ℕ → List ℕ
 headline lines = if is_short (before 10 lines) then utf8 (before 10 lines) else []
 
 abbrev pub body : List ℕ → List ℕ
-body lines = if is_short (before 10 lines) then utf8 (behind 10 lines) else utf8 lines
+body lines = if is_short (before 10 lines) then utf8 (behind_byte 10 lines) else utf8 lines
 
 -- the text with LF for CR LF, without the one line end at its end
 abbrev pub lines_of : List ℕ → List ℕ
@@ -163,10 +163,11 @@ story_of line slug lines = record {
   category = utf8 (category line);
   body = body lines;
   html = false;
+  copyright = [];
 }
 
 abbrev pub story : List ℕ → Story
-story bytes = story_of (first_line (head bytes)) (trim (behind 10 (head bytes))) (lines_of (text bytes))
+story bytes = story_of (first_line (head bytes)) (trim (behind_byte 10 (head bytes))) (lines_of (text bytes))
 
 -- source, number, `@` and the post-text information, of which the first 200 bytes count
 abbrev pub named : List ℕ → List ℕ

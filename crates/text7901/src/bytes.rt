@@ -2,7 +2,7 @@
 
 ghost use Rattle.std.specs.Prelude.{◌≡◌, ◌<◌, ◌≤◌, ◌==◌, ◌&&◌, ◌||◌, ◌*◌, nat_le, length, take, IfOk, IfSome};
 ghost use Rattle.std.specs.List.{prefix_len, position, count_by};
-ghost use Rattle.text7901.specs.Fields.{letter, digit, blank, begins_line, before, behind, trim, trim_front, with_lf, first_line, without_last_lf, utf8, is_short, fitting, lead, past};
+ghost use Rattle.text7901.specs.Fields.{letter, digit, blank, begins_line, before, behind_byte, trim, trim_front, with_lf, first_line, without_last_lf, utf8, is_short, fitting, lead, past};
 
 use news_types::{Memory, Text};
 use std::alloc::{AllocError, Global};
@@ -87,7 +87,7 @@ pub fn first_bytes(bytes: &[u8], most: usize) -> &[u8]
 /// What stands before and behind the first such byte: all and nothing where there is none.
 pub fn split_around(bytes: &[u8], stop: u8) -> (&[u8], &[u8])
     ensures front { result.0.now ≡ before stop bytes.now }
-    ensures back { result.1.now ≡ behind stop bytes.now }
+    ensures back { result.1.now ≡ behind_byte stop bytes.now }
 {
     match place_of(bytes, stop) {
         Some(i) => (&bytes[..i], &bytes[i + 1..]),

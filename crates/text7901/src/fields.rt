@@ -63,6 +63,7 @@ fn story(alloc: Global, line: &[u8], slug: &[u8], text: &[u8]) -> Result<Story, 
         category: utf8_text(alloc, category_of(rest))?,
         body: body_text(alloc, lines)?,
         html: false,
+        copyright: Text::copy_of(alloc, "")?,
     })
 }
 

@@ -9,16 +9,16 @@
 mod bytes;
 mod fields;
 mod found;
+mod laws;
 mod phase;
 mod reach;
 mod reader;
-mod run;
 mod state;
 mod writing;
 
 pub use found::{Found, What};
+pub use laws::{read_all, read_so_far};
 pub use reader::Reader;
-pub use run::{read_all, read_so_far};
 pub use writing::write;
 
 #[cfg(test)]

@@ -2,7 +2,8 @@
 
 ghost use Rattle.std.specs.Prelude.{◌≤◌, ◌<◌, ◌^◌, length};
 
-use crate::run::drain;
+use crate::bytes::{EOT, ETX};
+use crate::laws::drain;
 use crate::{Found, Reader, write};
 use news_types::{Incoming, Kind, Media, Memory, Publication, Story, Text};
 use std::alloc::{AllocError, Global};
@@ -158,6 +159,37 @@ fn wires(rt: HostRuntime) -> Result<(), Fail> {
     Ok(())
 }
 
+fn count_of(bytes: &[u8], wanted: u8) -> usize {
+    bytes.iter().filter(|byte| **byte == wanted).count()
+}
+
+fn story_count(all: &[Found]) -> usize {
+    all.iter()
+        .filter(|found| matches!(found, Found::Story(_)))
+        .count()
+}
+
+/// Whether the wire has a story for each EOT before it ends, and then one for each ETX.
+fn is_told_in_time(alloc: Global, wire: &[u8]) -> Result<bool, Memory> {
+    let mut reader = Reader::new(alloc)?;
+    let mut out = Vec::new(alloc);
+    reader.feed(wire)?;
+    drain(&mut reader, &mut out)?;
+    let told = story_count(out.as_slice());
+    reader.finish()?;
+    drain(&mut reader, &mut out)?;
+    Ok(told == count_of(wire, EOT) && story_count(out.as_slice()) == count_of(wire, ETX))
+}
+
+#[test]
+fn fronts(rt: HostRuntime) -> Result<(), Fail> {
+    for place in 0..=TWO.len() {
+        let (front, _) = TWO.split_at(place);
+        assert!(rt; is_told_in_time(rt.alloc(), front)?, "{place}");
+    }
+    Ok(())
+}
+
 /// A wire whose text has so many bytes `x`, and what stands behind them.
 fn long_wire(alloc: Global, count: usize, tail: &[u8]) -> Result<Vec<u8>, Memory> {
     let mut wire = Vec::from_slice(alloc, b"\x01a1\n\x02")?;
@@ -263,6 +295,7 @@ fn publication(alloc: Global, told: &Told) -> Result<Publication, Memory> {
             category: Text::copy_of(alloc, told.category)?,
             body: Text::copy_of(alloc, told.body)?,
             html: false,
+            copyright: Text::copy_of(alloc, "")?,
         },
         release: told.release,
     })

@@ -1,6 +1,7 @@
 //! Publications as they are written for a wire.
 
-ghost use Rattle.std.specs.Prelude.{◌≡◌, ◌+◌, ◌≤◌, ◌++◌, length, codes, decimal, IfOk, OnOk};
+ghost use Rattle.std.specs.Prelude.{◌≡◌, ◌+◌, ◌<◌, ◌≤◌, ◌^◌, ◌++◌, length, codes, decimal, IfOk, OnOk};
+ghost use Rattle.news_types.specs.Fits.{FitsStory};
 ghost use Rattle.text7901.specs.Fields.{letter};
 ghost use Rattle.text7901.specs.Written.{wire_byte, line_byte, line_text, body_text, padded, urgency_text, category_text, word_count, words_from, parts_words, kind_word, header, head_part, text_part, end_part, released, written};
 
@@ -17,7 +18,9 @@ const MOST_WORDS: usize = 99_999;
 /// A publication as it is written for the wire: SOH, its header line, slugline, STX, headline,
 /// body, ETX, its release and EOT.
 pub fn write(alloc: Global, publication: &Publication) -> Result<Bytes, Memory>
-    ensures { IfOk result (λ bytes. bytes ≡ written publication.now) }
+    ensures value { IfOk result (λ bytes. bytes ≡ written publication.now) }
+    // a frame has room for it
+    ensures size { FitsStory publication.now.story → IfOk result (λ bytes. length bytes ≤ 4_194_240) }
 {
     let mut out = Vec::new(alloc);
     put_head(&mut out, publication)?;
@@ -29,7 +32,8 @@ pub fn write(alloc: Global, publication: &Publication) -> Result<Bytes, Memory>
 /// Appends what stands before the text: SOH, the header line and the slugline.
 #[tactic(auto, unfolding(crate::specs::Written::head_part))]
 fn put_head(out: &mut Vec<u8>, publication: &Publication) -> Result<(), AllocError>
-    ensures { OnOk result (out.new.items ≡ out.old.items ++ head_part publication.now) }
+    ensures bytes { OnOk result (out.new.items ≡ out.old.items ++ head_part publication.now) }
+    ensures number { OnOk result (publication.now.number < 2 ^ 32) }
 {
     out.push(SOH)?;
     put_header(out, publication)?;
@@ -72,7 +76,8 @@ fn put_moment(out: &mut Vec<u8>, moment: Moment) -> Result<(), AllocError>
 /// Appends number, urgency, category, word count and kind.
 #[tactic(auto, unfolding(crate::specs::Written::header))]
 fn put_header(out: &mut Vec<u8>, publication: &Publication) -> Result<(), AllocError>
-    ensures { OnOk result (out.new.items ≡ out.old.items ++ header publication.now) }
+    ensures bytes { OnOk result (out.new.items ≡ out.old.items ++ header publication.now) }
+    ensures number { OnOk result (publication.now.number < 2 ^ 32) }
 {
     out.extend_from_slice(b"NWS")?;
     put_padded(out, publication.number)?;
@@ -88,7 +93,8 @@ fn put_header(out: &mut Vec<u8>, publication: &Publication) -> Result<(), AllocE
 
 /// Appends a number in at least four digits.
 fn put_padded(out: &mut Vec<u8>, number: u32) -> Result<(), AllocError>
-    ensures { OnOk result (out.new.items ≡ out.old.items ++ padded number) }
+    ensures bytes { OnOk result (out.new.items ≡ out.old.items ++ padded number) }
+    ensures number { OnOk result (number < 2 ^ 32) }
 {
     let mut buffer = Buffer::new();
     let digits = buffer.format(number).as_bytes();

@@ -12,11 +12,11 @@ use Rattle.worked_rows.specs.Examples.{city, alpha, beta, gamma, s, every, fire,
 
 abbrev flash_and_kill : List Command
 flash_and_kill =
-    AddSubscriber alpha Ninjs every ∷
-    AddSubscriber beta Ninjs every ∷
+    AddSubscriber alpha Ninjs every 0 ∷
+    AddSubscriber beta Ninjs every 0 ∷
     Flash (fire 3) [] ∷
-    SetSubscriber beta false every [] ∷
-    AddSubscriber gamma Ninjs every ∷
+    SetSubscriber beta false every [] None ∷
+    AddSubscriber gamma Ninjs every 0 ∷
     Lock 1 s ∷
     Kill 1 s (codes "Wrong.") ∷ []
 
@@ -29,7 +29,7 @@ urgent_product =
     AddCondition (codes "c1") Urgency Eq (codes "1" ∷ []) ∷
     AddFilter (codes "f1") (record { conditions = codes "c1" ∷ []; filters = [] } ∷ []) ∷
     AddProduct (codes "p1") Permitting (Some (codes "f1")) ∷
-    AddSubscriber gamma Ninjs (codes "p1" ∷ []) ∷ []
+    AddSubscriber gamma Ninjs (codes "p1" ∷ []) 0 ∷ []
 
 -- gamma has a product that permits by a filter: urgency 1 alone
 abbrev pub urgent_only : History
@@ -48,7 +48,7 @@ abbrev publish_and_deschedule : List Command
 publish_and_deschedule =
     AddDesk city ∷
     SetMember city admin true ∷
-    AddSubscriber alpha Ninjs every ∷
+    AddSubscriber alpha Ninjs every 0 ∷
     Create city (fire 3) ∷
     Lock 1 s ∷
     Publish 1 s (Some 2000) None [] ∷
@@ -57,10 +57,10 @@ publish_and_deschedule =
 -- then alpha is set inactive, and the item is published and corrected
 abbrev pub corrected_for_nobody : History
 corrected_for_nobody =
-    asked 1000 (SetSubscriber alpha false every [] ∷ Lock 1 s ∷ Publish 1 s None None [] ∷ Lock 1 s ∷ Correct 1 s (fire 1) ∷ [])
+    asked 1000 (SetSubscriber alpha false every [] None ∷ Lock 1 s ∷ Publish 1 s None None [] ∷ Lock 1 s ∷ Correct 1 s (fire 1) ∷ [])
     (asked 1000 publish_and_deschedule [])
 
 -- alpha has the flash, and is set inactive before its correction
 abbrev pub corrected_for_a_former : History
 corrected_for_a_former =
-    asked 1000 (AddSubscriber alpha Ninjs every ∷ Flash (fire 3) [] ∷ SetSubscriber alpha false every [] ∷ Lock 1 s ∷ Correct 1 s (fire 1) ∷ []) []
+    asked 1000 (AddSubscriber alpha Ninjs every 0 ∷ Flash (fire 3) [] ∷ SetSubscriber alpha false every [] None ∷ Lock 1 s ∷ Correct 1 s (fire 1) ∷ []) []

@@ -13,7 +13,7 @@ use Rattle.worked_rows.specs.Examples.{alpha, every, fire, asked}
 
 -- a feed of length 2
 abbrev pub flashed_two : History
-flashed_two = asked 1000 (AddSubscriber alpha Ninjs every ∷ Flash (fire 3) [] ∷ Flash (fire 3) [] ∷ []) []
+flashed_two = asked 1000 (AddSubscriber alpha Ninjs every 0 ∷ Flash (fire 3) [] ∷ Flash (fire 3) [] ∷ []) []
 
 -- behind a receipt of alpha at 1000
 abbrev pub received : ℕ → History → History
@@ -23,7 +23,7 @@ received n h = more ((receipt h alpha n 1000).more) h
 
 -- a feed of length 1
 abbrev pub flashed_one : History
-flashed_one = asked 1000 (AddSubscriber alpha Ninjs every ∷ Flash (fire 3) [] ∷ []) []
+flashed_one = asked 1000 (AddSubscriber alpha Ninjs every 0 ∷ Flash (fire 3) [] ∷ []) []
 
 -- behind a claim for alpha at a clock's reading: the tick comes first
 abbrev pub claimed : ℕ → History → History
@@ -58,4 +58,4 @@ after_ten = claimed_all ten flashed_one
 
 -- alpha is set inactive before the first claim
 abbrev pub inactive : History
-inactive = asked 1000 (SetSubscriber alpha false every [] ∷ []) flashed_one
+inactive = asked 1000 (SetSubscriber alpha false every [] None ∷ []) flashed_one

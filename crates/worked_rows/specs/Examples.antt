@@ -10,8 +10,7 @@ use Rattle.news_types.specs.declared.query.FeedRow.{FeedRow}
 use Rattle.news_types.specs.Names.{Bytes}
 use Rattle.news_types.specs.History.{History, last_number}
 use Rattle.news_types.specs.Users.{admin}
-use Rattle.news_types.specs.Publications.{Pub}
-use Rattle.news_types.specs.Feeds.{feed}
+use Rattle.news_types.specs.Feeds.{Dispatch, feed}
 use Rattle.news_types.specs.Outcome.{Answered, Done, Repeat, request, ingest}
 use Rattle.news_types.specs.Calls.{more, ticked}
 
@@ -48,7 +47,7 @@ every = codes "all" ∷ []
 
 abbrev pub story : Bytes → ℕ → Story
 story headline urgency =
-    record { kind = Text; urgency = urgency; slugline = []; headline = headline; byline = []; language = []; category = []; body = codes "Smoke."; html = false }
+    record { kind = Text; urgency = urgency; slugline = []; headline = headline; byline = []; language = []; category = []; body = codes "Smoke."; html = false; copyright = [] }
 
 -- a story of this urgency
 abbrev pub fire : ℕ → Story
@@ -100,14 +99,14 @@ told_ingest h provider come reading = (ingest h provider come reading).answer
 
 -- ---- feeds
 
-abbrev pub numbers : List Pub → List ℕ
-numbers ps = map (λ p. p.number) ps
+abbrev pub numbers : List Dispatch → List ℕ
+numbers ds = map (λ d. d.shown.number) ds
 
-abbrev pub kinds : List Pub → List Kind
-kinds ps = map (λ p. p.kind) ps
+abbrev pub kinds : List Dispatch → List Kind
+kinds ds = map (λ d. d.shown.kind) ds
 
 -- the feed of a subscriber as it is asked for at a clock's reading: the tick comes first
-abbrev pub feed_asked : History → Bytes → ℕ → List Pub
+abbrev pub feed_asked : History → Bytes → ℕ → List Dispatch
 feed_asked h subscriber reading = feed (ticked h reading) subscriber
 
 -- a row of a feed's answer

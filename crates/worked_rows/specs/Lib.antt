@@ -6,3 +6,5 @@ pub mod Turns
 pub mod Locks
 pub mod Delivery
 pub mod Routing
+pub mod Lags
+pub mod Questions

@@ -36,4 +36,4 @@ sharp = story (115 ∷ 116 ∷ 114 ∷ 97 ∷ 195 ∷ 159 ∷ 101 ∷ []) 0
 -- alpha has one product, which blocks and has no filter
 abbrev pub blocking_without_filter : History
 blocking_without_filter =
-    asked 1000 (AddProduct (codes "p1") Blocking None ∷ AddSubscriber alpha Ninjs (codes "p1" ∷ []) ∷ Flash (fire 3) [] ∷ []) []
+    asked 1000 (AddProduct (codes "p1") Blocking None ∷ AddSubscriber alpha Ninjs (codes "p1" ∷ []) 0 ∷ Flash (fire 3) [] ∷ []) []

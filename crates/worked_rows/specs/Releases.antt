@@ -11,7 +11,7 @@ abbrev making_two_items : List Command
 making_two_items =
     AddDesk city ∷
     SetMember city admin true ∷
-    AddSubscriber alpha Ninjs every ∷
+    AddSubscriber alpha Ninjs every 0 ∷
     Create city (fire 3) ∷
     Create city (fire 3) ∷
     Lock 1 s ∷

@@ -24,7 +24,7 @@ night_scheme =
     AddDesk city ∷
     AddScheme (codes "night") (by_night ∷ []) ∷
     AddProvider wire (Some (codes "night")) ∷
-    AddSubscriber alpha Ninjs every ∷ []
+    AddSubscriber alpha Ninjs every 0 ∷ []
 
 -- provider wire has a scheme of this rule alone
 abbrev pub with_scheme : History

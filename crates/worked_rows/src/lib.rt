@@ -8,8 +8,10 @@
 
 mod corrections;
 mod delivery;
+mod lags;
 mod locks;
 mod permission;
+mod questions;
 mod releases;
 mod routing;
 mod turns;
@@ -22,8 +24,13 @@ pub use delivery::{
     inactive_subscriber_is_served, receipt_is_asked_of_the_last_entry,
     receipts_count_what_a_feed_has, ten_attempts_pause_a_feed,
 };
+pub use lags::{
+    correction_comes_no_earlier, kill_withdraws_what_was_not_given,
+    lag_comes_on_top_of_the_release, lag_stays_unless_it_is_set,
+};
 pub use locks::{edit_asks_for_desk_state_and_lock, unspike_asks_for_the_named_desk};
 pub use permission::{product_without_a_filter_permits_all, text_is_compared_without_its_case};
+pub use questions::{publications_are_shown_by_number, publications_of_an_item_are_found};
 pub use releases::{
     correction_waits_for_the_release, deschedule_before_the_release, embargo_turns_the_order,
     one_release_keeps_the_order,

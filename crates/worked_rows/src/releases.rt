@@ -6,7 +6,7 @@ ghost use Rattle.news_types.specs.declared.words.Kind.TheVariants.{First};
 ghost use Rattle.news_types.specs.declared.words.State.TheVariants.{InProgress};
 ghost use Rattle.news_types.specs.declared.denial.Denial.TheVariants.{NotReleased, AlreadyReleased};
 ghost use Rattle.news_types.specs.declared.query.Answer.TheVariants.{Feed};
-ghost use Rattle.news_types.specs.Items.{state};
+ghost use Rattle.news_types.specs.Publications.{state};
 ghost use Rattle.news_types.specs.Outcome.{Denied, entry_of};
 ghost use Rattle.news_types.specs.Answers.{feed_answer};
 ghost use Rattle.news_types.specs.Calls.{Ticked, follow, ticked};

@@ -2,7 +2,8 @@
 ghost use Rattle.std.specs.Prelude.{◌≡◌, [], ◌∷◌, codes, length, Some, None};
 ghost use Rattle.std.specs.Option.{option_map};
 ghost use Rattle.news_types.specs.declared.words.State.TheVariants.{Published, Ingested};
-ghost use Rattle.news_types.specs.Items.{Item, item, state};
+ghost use Rattle.news_types.specs.Items.{Item};
+ghost use Rattle.news_types.specs.Publications.{item, state};
 ghost use Rattle.news_types.specs.Feeds.{feed};
 ghost use Rattle.worked_rows.specs.Examples.{alpha, done, numbers, told_ingest, usable};
 ghost use Rattle.worked_rows.specs.Routing.{wire, incoming_of_city, with_scheme, at_night, by_day};

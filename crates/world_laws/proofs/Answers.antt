@@ -14,10 +14,11 @@ use Rattle.news_types.specs.Names.{Bytes, same}
 use Rattle.news_types.specs.History.{History, Asked as LastAsked, last}
 use Rattle.news_types.specs.Denial.{same_command, is_repeat}
 use Rattle.news_types.specs.Outcome.{Done, Repeat, reply_to, last_reply, with_issue}
-use Rattle.news_types.specs.Items.{Issue}
+use Rattle.news_types.specs.Publications.{Issue}
 use Rattle.news_types.specs.Legal.{IsLegal}
 use Rattle.news_types.specs.Frames.{Writer}
 use Rattle.news_types.specs.Calls.{Call, Requested, Asked, Answer, Replied, Job, Tells, place_of, front, entry_at}
+use Rattle.news_types.proofs.Equality.{command_is}
 use Rattle.news_types.proofs.Members.{same_is, some_is, none_some}
 use Rattle.world_laws.specs.World.{Given}
 use Rattle.world_laws.specs.Headline.{Says, IsAnswer, reply_at, IsReplyTo, IsReply, IsReplied, IsShown}
@@ -95,10 +96,10 @@ reply_to_new h m caller number command =
 
 replied_more : (e : Entry) (h : History) (a : Answer) (call : Call) → IsReplied h a call → IsReplied (e ∷ h) a call
 replied_more e h (Replied (Done reply)) (Requested caller number command) is = reply_to_more e h caller number command reply is
-replied_more e h (Replied (Repeat reply)) (Requested caller number command) is = (is.0, is.1, reply_to_more e h caller number is.0 reply is.2)
+replied_more e h (Replied (Repeat reply)) (Requested caller number command) is = reply_to_more e h caller number command reply is
 replied_more e h _ _ is = is
 
-shown_more : (write : Writer) (e : Entry) (h : History) (a : Answer) (call : Call) → IsLegal (e ∷ h) → IsShown write h a call → IsShown write (e ∷ h) a call
+pub shown_more : (write : Writer) (e : Entry) (h : History) (a : Answer) (call : Call) → IsLegal (e ∷ h) → IsShown write h a call → IsShown write (e ∷ h) a call
 shown_more write e h (Job s k frame n) call legal is = (is.0, is.1, frame_stays write e h s k is.0 legal is.2)
 shown_more write e h (Tells (told.Frame bytes)) (Asked (asked.Frame s k)) legal is = (is.0, is.1, frame_stays write e h s k is.0 legal is.2)
 shown_more write e h _ _ legal is = is
@@ -156,4 +157,5 @@ repeat_stands h caller number command again = by (last h caller) refl again
     by (Some before) is again =
         let two = all_three (nat_lt 0 number) (number == before.number) (same_command before.command command) again in
         let alike : number ≡ before.number = (Decides-eqb number before.number).0 two.0 in
-        (before.command, two.1, subst (λ (n : ℕ). IsReplyTo h caller n before.command (last_reply h caller)) (sym alike) (last_stands h caller before is))
+        subst (λ (c : Command). IsReplyTo h caller number c (last_reply h caller)) (command_is before.command command two.1)
+        (subst (λ (n : ℕ). IsReplyTo h caller n before.command (last_reply h caller)) (sym alike) (last_stands h caller before is))

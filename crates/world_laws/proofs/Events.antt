@@ -13,7 +13,7 @@ use Rattle.news_types.specs.Frames.{Frame, Writer, frame_at}
 use Rattle.news_types.specs.Calls.{Call, Requested, Ingested, Receipted, Ticked, Halted, Asked, Claimed, Full, Fault, Memory, follow, more, ticked, job, answer, Fate, IsKept, IsFull, IsFailed, IsStarved, given}
 use Rattle.news_types.specs.Server.{claimed_at, claim_answer_at}
 use Rattle.news_types.proofs.Members.{same_is, none_some, each_map, each_get}
-use Rattle.world_laws.specs.Receiver.{Receiver, Taken, NotMine, Known, Ahead, Accepted, reaction, accepted, reacted, restarted}
+use Rattle.news_types.specs.Receiver.{Receiver, Taken, NotMine, Known, Ahead, Accepted, reaction, accepted, reacted, restarted}
 use Rattle.world_laws.specs.World.{World, SentReceipt, Event, Requests, Ingests, Ticks, Halts, Asks, Claims, Sends, FrameComes, ReceiptComes, Forges, Reopens, ReceiverReopens, calls, claims, send, set_at, receives, receipted, frame_comes, receipt_comes, one_of, reopened, happens, run_by, opening}
 use Rattle.world_laws.specs.Headline.{IsFrame, WouldKeep}
 use Rattle.world_laws.proofs.Frames.{frame_is, are_more}

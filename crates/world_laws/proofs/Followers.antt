@@ -18,11 +18,12 @@ use Rattle.news_types.specs.Names.{Bytes}
 use Rattle.news_types.specs.Members.{Each}
 use Rattle.news_types.specs.History.{History, moment, moment_at, Asked as LastAsked, last, number_of}
 use Rattle.news_types.specs.Products.{is_subscriber}
-use Rattle.news_types.specs.Items.{Effect, New, NewAt, Replaces, Cancels, Settled, effect}
+use Rattle.news_types.specs.Items.{Effect, New, NewAt, Replaces, Cancels, Settled}
+use Rattle.news_types.specs.Publications.{effect}
 use Rattle.news_types.specs.Feeds.{feed}
 use Rattle.news_types.specs.Delivery.{acked, ready_at, is_ready, Candidate, candidate, comes_first, earlier, earliest, ready_candidate, chosen, choice}
 use Rattle.news_types.specs.Denial.{unless, is_last_command, turn_denial, is_repeat, command_denial, ingest_denial, receipt_denial}
-use Rattle.news_types.specs.Legal.{IsLegal, Follows, some_waits, is_kept}
+use Rattle.news_types.specs.Legal.{IsLegal, Follows, some_waits, keeps_entry}
 use Rattle.news_types.specs.Outcome.{Answered as Replies, Outcome, entry_of, kept, kept_unless, ingested}
 use Rattle.news_types.specs.Calls.{Call, Requested, Ingested, Receipted, Ticked, Halted, Asked, Claimed, entry_if, attempt_of, follow}
 use Rattle.news_types.proofs.Members.{some_is, none_some}
@@ -53,7 +54,7 @@ more_if h false o p one two = two refl
 more_kept : (h : History) (m : ℕ) (act : Act) → IsLegal (entry_of m act ∷ h) → IsLegalMore h (kept h m act)
 more_kept h m act legal e is = is_entry h _ e is legal
 
-more_ingested : (h : History) (name : Bytes) (come : Incoming) (m : ℕ) (eff : Effect) → (is_kept eff ≡ true → IsLegal (entry_of m (Ingest name come) ∷ h)) → IsLegalMore h (ingested h name come m eff)
+more_ingested : (h : History) (name : Bytes) (come : Incoming) (m : ℕ) (eff : Effect) → (keeps_entry eff ≡ true → IsLegal (entry_of m (Ingest name come) ∷ h)) → IsLegalMore h (ingested h name come m eff)
 more_ingested h name come m (Settled i) legal = λ e is. absurd (none_some e is)
 more_ingested h name come m New legal = more_kept h m (Ingest name come) (legal refl)
 more_ingested h name come m (NewAt place published) legal = more_kept h m (Ingest name come) (legal refl)
@@ -98,7 +99,7 @@ ready_one h m s c =
       | false ↦ λ other is. absurd (none_some c is)
     ] refl
 
-each_cons : (P : Candidate → Type 0) (o : Option Candidate) (cs : List Candidate) → ((c : Candidate) → o ≡ Some c → P c) → Each P cs → Each P (cons_option o cs)
+pub each_cons : (P : Candidate → Type 0) (o : Option Candidate) (cs : List Candidate) → ((c : Candidate) → o ≡ Some c → P c) → Each P cs → Each P (cons_option o cs)
 each_cons P None cs one all = all
 each_cons P (Some c) cs one all = (one c refl, all)
 
@@ -110,7 +111,7 @@ earlier_one : (P : Candidate → Type 0) (a : Candidate) (o : Option Candidate) 
 earlier_one P a None new old = new
 earlier_one P a (Some b) new old = elim (comes_first a b) as (λ t. P (cond t a b)) [ true ↦ new | false ↦ old b refl ]
 
-earliest_one : (P : Candidate → Type 0) (cs : List Candidate) → Each P cs → (c : Candidate) → earliest cs ≡ Some c → P c
+pub earliest_one : (P : Candidate → Type 0) (cs : List Candidate) → Each P cs → (c : Candidate) → earliest cs ≡ Some c → P c
 earliest_one P [] all c is = absurd (none_some c is)
 earliest_one P (a ∷ cs) all c is = subst P (some_is _ c is) (earlier_one P a (earliest cs) all.0 (earliest_one P cs all.1))
 

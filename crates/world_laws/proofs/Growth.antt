@@ -7,13 +7,13 @@ use Rattle.news_types.specs.History.{History, moment_at}
 use Rattle.news_types.specs.Frames.{Frame, Writer, frame_at}
 use Rattle.news_types.specs.Calls.{Call, Requested, Ingested, Receipted, Ticked, Halted, Asked, Claimed, follow, Fate, IsKept, IsFull, IsFailed, IsStarved, list_after}
 use Rattle.news_types.specs.Server.{Server, claimed_at}
-use Rattle.world_laws.specs.Receiver.{Receiver, Taken, NotMine, Known, Ahead, Accepted, reaction, accepted, reacted, is_receipted, restarted}
+use Rattle.news_types.specs.Receiver.{Receiver, Taken, NotMine, Known, Ahead, Accepted, reaction, accepted, reacted, is_receipted, restarted}
 use Rattle.world_laws.specs.World.{World, Event, Given, SentReceipt, Requests, Ingests, Ticks, Halts, Asks, Claims, Sends, FrameComes, ReceiptComes, Forges, Reopens, ReceiverReopens, calls, send, receives, receipted, frame_comes, receipt_comes, one_of, reopened, happens, run}
 use Rattle.world_laws.specs.Growth.{GoesOn, NothingIsLost}
 use Rattle.world_laws.proofs.Events.{set_holds}
 
 -- a list has more in front, or more at its end
-abbrev Fronted : {A : Type 0} → List A → List A → Type 0
+abbrev pub Fronted : {A : Type 0} → List A → List A → Type 0
 Fronted {A = A} old new = (more : List A) × (new ≡ more ++ old)
 
 abbrev Ended : {A : Type 0} → List A → List A → Type 0
@@ -143,7 +143,7 @@ receipt_on write w reading fate (Some receipt) = calls_on write w (Receipted rec
 
 -- ---- every event
 
-event_on : (write : Writer) (w : World) (event : Event) → GoesOn w (happens write w event)
+pub event_on : (write : Writer) (w : World) (event : Event) → GoesOn w (happens write w event)
 event_on write w (Requests caller number command reading fate) = calls_on write w (Requested caller number command) reading fate
 event_on write w (Ingests name come reading fate) = calls_on write w (Ingested name come) reading fate
 event_on write w (Ticks reading fate) = calls_on write w Ticked reading fate

@@ -10,21 +10,23 @@ use Rattle.news_types.specs.declared.command.Command.{Command}
 use Rattle.news_types.specs.Names.{Bytes, same}
 use Rattle.news_types.specs.Members.{Each}
 use Rattle.news_types.specs.History.{History, moment, last, number_of, last_number, last_after}
-use Rattle.news_types.specs.Publications.{Pub}
-use Rattle.news_types.specs.Feeds.{feed}
+use Rattle.news_types.specs.Feeds.{Dispatch, feed}
 use Rattle.news_types.specs.Outcome.{Answered, Done, Repeat}
 use Rattle.news_types.specs.Legal.{IsLegal, Follows}
 use Rattle.news_types.specs.Frames.{Frame, Writer, numbered, framed, format, frame_at}
 use Rattle.news_types.specs.Calls.{Call, Requested, Answer, Replied, place_of, entry_at}
 use Rattle.news_types.proofs.Members.{same_is, same_self, some_is, none_some, each_map, each_get, mapped, numbered_within, numbered_none}
 use Rattle.world_laws.specs.World.{World, Given, happens}
-use Rattle.world_laws.specs.Headline.{Shows, reply_at, IsReplyTo, IsReply, IsReplied, AreInOrder, NumbersRise, RepeatsAgree, DoneOnce, Headline, HeadlineHolds}
+use Rattle.world_laws.specs.FeedOrder.{ComesBefore}
+use Rattle.world_laws.specs.Headline.{Shows, ShowInOrder, reply_at, IsReplyTo, IsReply, IsReplied, AnswersInOrder, NumbersRise, RepeatsAgree, DoneOnce, Headline, HeadlineHolds}
 use Rattle.world_laws.proofs.Frames.{are_within, are_at}
-use Rattle.world_laws.proofs.Order.{feeds_in_order}
+use Rattle.world_laws.proofs.Order.{feeds_in_order, feed_differs}
 use Rattle.world_laws.proofs.Behind.{corrections_follow}
 use Rattle.world_laws.proofs.Answers.{entry_cases}
 use Rattle.world_laws.proofs.Steps.{Stands}
 use Rattle.world_laws.proofs.Events.{all_stands}
+use Rattle.world_laws.proofs.Asked.{InTurn, all_in_turn}
+use Rattle.world_laws.proofs.Ticks.{TicksStand, all_ticks_stand}
 
 -- ---- a caller's numbers
 
@@ -101,10 +103,10 @@ repeats_agree : (h : History) (out : List Given) → NumbersRise h → AreReplie
 repeats_agree h out rise all i j again first caller number r s one two repeated done =
     let a = replied_of h out i again caller number repeated.0.0 (Repeat r) all one repeated.0.1 repeated.1 in
     let b = replied_of h out j first caller number done.0.0 (Done s) all two done.0.1 done.1 in
-    same_reply h caller number a.0 done.0.0 r s rise a.2 b
+    same_reply h caller number repeated.0.0 done.0.0 r s rise a b
 
 -- a later answer with an entry has a later one
-order_at : (out : List Given) (i j : ℕ) (one two : Given) → AreInOrder out → i < j → slice_get out i ≡ Some one → slice_get out j ≡ Some two → 0 < place_of one.answer → place_of two.answer < place_of one.answer
+order_at : (out : List Given) (i j : ℕ) (one two : Given) → AnswersInOrder out → i < j → slice_get out i ≡ Some one → slice_get out j ≡ Some two → 0 < place_of one.answer → place_of two.answer < place_of one.answer
 order_at [] i j one two order lt first second more = absurd (none_some one first)
 order_at (g ∷ out) i zero one two order lt first second more = absurd (omega (arith, lt))
 order_at (g ∷ out) zero (suc j) one two order lt first second more =
@@ -117,7 +119,7 @@ entry_not_zero : (h : History) (i : ℕ) (x : Entry) → entry_at h i ≡ Some x
 entry_not_zero [] i x is = absurd (none_some x is)
 entry_not_zero (e ∷ h) i x is = elim (entry_cases e h i x is) [ inl old ↦ entry_not_zero h i x old.1 | inr new ↦ omega (arith, new.0) ]
 
-done_once : (h : History) (out : List Given) → NumbersRise h → AreReplied h out → AreInOrder out → DoneOnce out
+done_once : (h : History) (out : List Given) → NumbersRise h → AreReplied h out → AnswersInOrder out → DoneOnce out
 done_once h out rise all order i j one two caller number r s first second done again =
     elim (cases_lt i j) [
       | inl lt ↦ absurd (omega (arith, at, place_one, place_two, order_at out i j one two order lt first second (omega (arith, place_one, some_one))))
@@ -159,18 +161,37 @@ shows write h s k f is =
     let found = mapped (framed write (format h s) s k) (numbered (feed h s) k) f is in
     record { shown = found.0; in_feed = found.1; written = sym found.2; released = out k found.0 found.1 }
   where
-    out : (k : ℕ) (p : Pub) → numbered (feed h s) k ≡ Some p → p.release ≤ moment h
+    out : (k : ℕ) (p : Dispatch) → numbered (feed h s) k ≡ Some p → p.release ≤ moment h
     out zero p is = absurd (numbered_none 0 p is)
-    out (suc i) p is = each_get (λ (q : Pub). q.release ≤ moment h) (feed h s) i p (feeds_in_order h s).1 is
+    out (suc i) p is = (each_get (λ (d : Dispatch). (d.shown.release ≤ d.release) × (d.release ≤ moment h)) (feed h s) i p (feeds_in_order h s).1 is).1
 
 number_there : {A : Type 0} (xs : List A) (k : ℕ) (x : A) → numbered xs k ≡ Some x → 0 < k
 number_there xs zero x is = absurd (none_some x is)
 number_there xs (suc i) x is = omega arith
 
+shown_at : (write : Writer) (w : World) → Stands write w → (s : Bytes) (k : ℕ) (f : Frame) → numbered (w.receivers s).held k ≡ Some f → Shows write w.server.list s k f
+shown_at write w stands s k f is =
+    let held : List Frame = (w.receivers s).held in
+    shows write w.server.list s k f (sym (held_at write w stands s k (number_there held k f is) (numbered_within held k f is)) ∙ is)
+
+-- of two entries of a feed, counted from 1
+numbered_before : (h : History) (s : Bytes) (k l : ℕ) (d e : Dispatch) → k < l → numbered (feed h s) k ≡ Some d → numbered (feed h s) l ≡ Some e → ComesBefore d e × (d.shown.number ≡ e.shown.number → ⊥)
+numbered_before h s zero l d e lt one two = absurd (numbered_none 0 d one)
+numbered_before h s (suc i) zero d e lt one two = absurd (omega (arith, lt))
+numbered_before h s (suc i) (suc j) d e lt one two = ((feeds_in_order h s).0 i j d e (omega (arith, lt)) one two, feed_differs h s i j d e (omega (arith, lt)) one two)
+
+-- and of the two frames that are held
+held_in_order : (write : Writer) (w : World) → Stands write w → (s : Bytes) (k l : ℕ) (f g : Frame) → k < l → numbered (w.receivers s).held k ≡ Some f → numbered (w.receivers s).held l ≡ Some g → ShowInOrder write w.server.list s k l f g
+held_in_order write w stands s k l f g lt one two =
+    let earlier = shown_at write w stands s k f one in
+    let later = shown_at write w stands s l g two in
+    let before = numbered_before w.server.list s k l earlier.shown later.shown lt earlier.in_feed later.in_feed in
+    record { earlier = earlier; later = later; order = before.0; differ = before.1 }
+
 -- ---- the headline
 
-headline : (write : Writer) (w : World) → Stands write w → Headline write w
-headline write w stands =
+headline : (write : Writer) (w : World) → Stands write w → InTurn w → TicksStand w → Headline write w
+headline write w stands turn ticks =
     let h : History = w.server.list in
     let rise = numbers_rise h stands.legal in
     let replied = each_map _ (λ (g : Given). IsReplied h g.answer g.call) w.out (λ g fair. fair.sound.replied) stands.out in
@@ -179,14 +200,19 @@ headline write w stands =
       doubt = stands.doubt;
       within = λ s. omega (arith, are_within write h s 0 (w.receivers s).held (omega arith) (stands.receivers s).frames);
       prefix = held_at write w stands;
-      shown = λ s k f is. shows write h s k f (sym (held_at write w stands s k (number_there (w.receivers s).held k f is) (numbered_within (w.receivers s).held k f is)) ∙ is);
+      shown = shown_at write w stands;
+      held = held_in_order write w stands;
       in_order = λ s. (feeds_in_order h s).0;
       released = λ s. (feeds_in_order h s).1;
-      behind = corrections_follow h stands.legal;
+      behind = corrections_follow h;
       frames = stands.frames;
       receipts = stands.receipts;
       jobs = each_map _ _ w.out (λ g fair. fair.sound.shown) stands.out;
       answers = each_map _ _ w.out (λ g fair. fair.is) stands.out;
+      places = turn.places;
+      asked = turn.asked.list;
+      doubt_asked = turn.asked.doubt;
+      ticks = ticks;
       entries = each_map _ _ w.out (λ g fair. fair.sound.kept) stands.out;
       replies = replied;
       order = stands.order;
@@ -196,4 +222,4 @@ headline write w stands =
     }
 
 pub headline_holds : HeadlineHolds happens
-headline_holds write events = headline write _ (all_stands write events)
+headline_holds write events = headline write _ (all_stands write events) (all_in_turn write events) (all_ticks_stand write events)

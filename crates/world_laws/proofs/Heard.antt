@@ -16,7 +16,7 @@ use Rattle.news_types.specs.Calls.{Call, Requested, Ingested, Receipted, Ticked,
 use Rattle.news_types.specs.Server.{Server, put, called, claimed_at}
 use Rattle.news_types.specs.Legal.{some_waits}
 use Rattle.news_types.proofs.Members.{same_is, some_is, none_some, each_map, each_get}
-use Rattle.world_laws.specs.Receiver.{Receiver, Taken, reaction, reacted, is_receipted, restarted}
+use Rattle.news_types.specs.Receiver.{Receiver, Taken, reaction, reacted, is_receipted, restarted}
 use Rattle.world_laws.specs.World.{World, SentReceipt, Event, Requests, Ingests, Ticks, Halts, Asks, Claims, Sends, FrameComes, ReceiptComes, Forges, Reopens, ReceiverReopens, send, set_at, receives, receipted, frame_comes, receipt_comes, one_of, reopened, happens, run_by, opening, is_honest}
 use Rattle.world_laws.specs.Headline.{Says, ReceiptsHold}
 use Rattle.world_laws.proofs.Answers.{entry_new}

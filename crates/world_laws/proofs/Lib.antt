@@ -1,6 +1,5 @@
 pub mod Frames
 pub mod Order
-pub mod Later
 pub mod Behind
 pub mod Answers
 pub mod Steps
@@ -8,9 +7,16 @@ pub mod Followers
 pub mod Replies
 pub mod Events
 pub mod Heard
-pub mod Headline
+pub mod Asked
 pub mod Growth
-pub mod Keeps
+pub mod Ticks
+pub mod Headline
 pub mod Bridge
-pub mod WrongWorlds
+pub mod Items
+pub mod ItemFacts
+pub mod There
 pub mod Reach
+pub mod Published
+pub mod Reached
+pub mod Left
+pub mod WrongWorlds

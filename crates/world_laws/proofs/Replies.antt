@@ -20,15 +20,15 @@ use Rattle.news_types.specs.declared.query.Ready.TheVariants.{Now, Later}
 use Rattle.news_types.specs.Names.{Bytes}
 use Rattle.news_types.specs.History.{History, last}
 use Rattle.news_types.specs.Products.{is_subscriber}
-use Rattle.news_types.specs.Publications.{Pub}
-use Rattle.news_types.specs.Items.{Effect, New, NewAt, Replaces, Cancels, Settled, effect}
-use Rattle.news_types.specs.Feeds.{feed}
+use Rattle.news_types.specs.Items.{Effect, New, NewAt, Replaces, Cancels, Settled}
+use Rattle.news_types.specs.Publications.{effect}
+use Rattle.news_types.specs.Feeds.{Dispatch, feed}
 use Rattle.news_types.specs.Delivery.{acked, tries, tried, next_entry, ready_from, is_by, is_ready}
 use Rattle.news_types.specs.Denial.{turn_denial, is_repeat, command_denial, ingest_denial, receipt_denial}
 use Rattle.news_types.specs.Legal.{IsLegal, some_waits}
 use Rattle.news_types.specs.Outcome.{Answered as Replies, Done, Denied, Outcome, reply_to, entry_of, kept, kept_unless, ingested}
-use Rattle.news_types.specs.Answers.{answer as told_of}
-use Rattle.news_types.specs.Frames.{Frame, Writer, framed, format, frame_at, frame_bytes, spelled}
+use Rattle.news_types.specs.Answers.{query_answer as told_of}
+use Rattle.news_types.specs.Frames.{Frame, Writer, framed, format, frame_at, frame_bytes, frame_bytes_at, bytes_of}
 use Rattle.news_types.specs.Calls.{Call, Requested, Ingested, Receipted, Ticked, Halted, Asked, Claimed, Answer, Replied, Kept, Still, Job, Idle, Tells, place_of, entry_if, attempt_of, follow, job, answer}
 use Rattle.world_laws.specs.Headline.{Says, IsReplied, IsShown}
 use Rattle.world_laws.proofs.Frames.{frame_stays}
@@ -102,20 +102,20 @@ and_both true false e = absurd (true≢false (sym e))
 and_both false b e = absurd (true≢false (sym e))
 
 -- the bytes that are answered are those of the frame
-shown_frame : (write : Writer) (h : History) (s : Bytes) (k : ℕ) → 0 < k → k ≤ length (feed h s) → IsShown write h (Tells (told.Frame (frame_bytes write h s k))) (Asked (asked.Frame s k))
+shown_frame : (write : Writer) (h : History) (s : Bytes) (k : ℕ) → 0 < k → k ≤ length (feed h s) → IsShown write h (Tells (told.Frame (frame_bytes_at write h s k))) (Asked (asked.Frame s k))
 shown_frame write h s k lt le =
     let one = frame_there write h s k lt le in
     (one.0, spelled_is write (frame_at write h s k) one.0 one.1, one.1)
   where
-    spelled_is : (write : Writer) (o : Option Frame) (f : Frame) → o ≡ Some f → spelled write o ≡ write.spell f
-    spelled_is write o f is = ap (spelled write) is
+    spelled_is : (write : Writer) (o : Option Frame) (f : Frame) → o ≡ Some f → bytes_of o ≡ frame_bytes f
+    spelled_is write o f is = ap bytes_of is
 
-asked_frame : (write : Writer) (h : History) (s : Bytes) (k : ℕ) → IsShown write h (Tells (told_of (frame_bytes write h) h (asked.Frame s k))) (Asked (asked.Frame s k))
+asked_frame : (write : Writer) (h : History) (s : Bytes) (k : ℕ) → IsShown write h (Tells (told_of (frame_bytes_at write h) h (asked.Frame s k))) (Asked (asked.Frame s k))
 asked_frame write h s k =
-    elim (is_subscriber h s) as (λ b. IsShown write h (Tells (cond b (cond (nat_lt 0 k && nat_le k (length (feed h s))) (told.Frame (frame_bytes write h s k)) (told.NoFrame (length (feed h s)))) (told.Unknown thing.Subscriber))) (Asked (asked.Frame s k))) [
+    elim (is_subscriber h s) as (λ b. IsShown write h (Tells (cond b (cond (nat_lt 0 k && nat_le k (length (feed h s))) (told.Frame (frame_bytes_at write h s k)) (told.NoFrame (length (feed h s)))) (told.Unknown thing.Subscriber))) (Asked (asked.Frame s k))) [
       | false ↦ tt
       | true ↦
-          elim (nat_lt 0 k && nat_le k (length (feed h s))) as (λ b. (nat_lt 0 k && nat_le k (length (feed h s))) ≡ b → IsShown write h (Tells (cond b (told.Frame (frame_bytes write h s k)) (told.NoFrame (length (feed h s))))) (Asked (asked.Frame s k))) [
+          elim (nat_lt 0 k && nat_le k (length (feed h s))) as (λ b. (nat_lt 0 k && nat_le k (length (feed h s))) ≡ b → IsShown write h (Tells (cond b (told.Frame (frame_bytes_at write h s k)) (told.NoFrame (length (feed h s))))) (Asked (asked.Frame s k))) [
             | false ↦ λ out. tt
             | true ↦ λ there.
                 let both = and_both (nat_lt 0 k) (nat_le k (length (feed h s))) there in
@@ -125,14 +125,14 @@ asked_frame write h s k =
           ] refl
     ]
 
-told_shown : (write : Writer) (h : History) (query : Query) (a : Told) → (a ≡ told_of (frame_bytes write h) h query) → IsShown write h (Tells a) (Asked query)
+told_shown : (write : Writer) (h : History) (query : Query) (a : Told) → (a ≡ told_of (frame_bytes_at write h) h query) → IsShown write h (Tells a) (Asked query)
 told_shown write h (asked.Frame s k) a is = subst (λ (x : Told). IsShown write h (Tells x) (Asked (asked.Frame s k))) (sym is) (asked_frame write h s k)
 told_shown write h query (told.Frame bytes) is = tt
 told_shown write h query a is = tt
 
 -- ---- claims
 
-is_next : (o : Option Pub) (n last m : ℕ) → is_by m (ready_from o n last) ≡ true → (p : Pub) × (o ≡ Some p)
+is_next : (o : Option Dispatch) (n last m : ℕ) → is_by m (ready_from o n last) ≡ true → (d : Dispatch) × (o ≡ Some d)
 is_next None n last m by = absurd (true≢false (sym by))
 is_next (Some p) n last m by = (p, refl)
 

@@ -9,9 +9,9 @@ use Rattle.news_types.specs.Frames.{Writer, frame_at}
 use Rattle.news_types.specs.Calls.{Call, Answer, Full, Fault, Memory, place_of, answer, Fate, IsKept, IsFull, IsFailed, IsStarved, given, front}
 use Rattle.news_types.specs.Server.{put}
 use Rattle.news_types.proofs.Members.{each_map}
-use Rattle.world_laws.specs.Receiver.{Receiver}
+use Rattle.news_types.specs.Receiver.{Receiver}
 use Rattle.world_laws.specs.World.{World, Given}
-use Rattle.world_laws.specs.Headline.{IsFrame, IsAnswerAt, WouldKeep, IsReplied, IsShown, AreInOrder}
+use Rattle.world_laws.specs.Headline.{IsFrame, IsAnswerAt, WouldKeep, IsReplied, IsShown, AnswersInOrder}
 use Rattle.world_laws.proofs.Frames.{frame_stays, AreFrames, are_stay}
 use Rattle.world_laws.proofs.Answers.{Sound, Fair, front_more, front_all, fair_more}
 
@@ -24,7 +24,7 @@ pub record Stands (write : Writer) (w : World) : Type 0 where
   pub legal : IsLegal w.server.list
   pub doubt : Each (λ e. IsLegal (e ∷ w.server.list)) w.server.doubt
   pub out : Each (Fair write w.server.list) w.out
-  pub order : AreInOrder w.out
+  pub order : AnswersInOrder w.out
   pub frames : Each (IsFrame write w.server.list) w.frames
   pub receipts : Each (λ r. r.count ≤ length (w.receivers r.from).held) w.receipts
   pub receivers : (s : Bytes) → Holds write w.server.list s (w.receivers s)

@@ -14,10 +14,10 @@ use Rattle.world_laws.specs.World.{World, Event, Requests, Claims, Sends, FrameC
 
 -- a writer that sends the headline alone
 abbrev pub headlines : Writer
-headlines = record { payload = λ format p. p.story.headline; spell = λ f. f.payload }
+headlines = λ format p. p.story.headline
 
 abbrev pub story : Bytes → Story
-story headline = record { kind = Text; urgency = 3; slugline = []; headline = headline; byline = []; language = []; category = []; body = []; html = true }
+story headline = record { kind = Text; urgency = 3; slugline = []; headline = headline; byline = []; language = []; category = []; body = []; html = true; copyright = [] }
 
 abbrev pub fire : Bytes
 fire = codes "Fire"
@@ -43,7 +43,7 @@ abbrev pub morning : List Event
 morning =
     asks 1 (AddDesk city) IsKept ∷
     asks 2 (SetMember city admin true) IsKept ∷
-    asks 3 (AddSubscriber alpha Ninjs (codes "all" ∷ [])) IsKept ∷
+    asks 3 (AddSubscriber alpha Ninjs (codes "all" ∷ []) 0) IsKept ∷
     asks 4 (Create city (story fire)) IsKept ∷
     asks 5 (Lock 1 session) IsKept ∷
     asks 6 (Publish 1 session None (Some 2000) []) IsKept ∷ []
@@ -52,7 +52,7 @@ abbrev pub day : List Event
 day =
     asks 1 (AddDesk city) IsKept ∷
     asks 2 (SetMember city admin true) IsKept ∷
-    asks 3 (AddSubscriber alpha Ninjs (codes "all" ∷ [])) IsKept ∷
+    asks 3 (AddSubscriber alpha Ninjs (codes "all" ∷ []) 0) IsKept ∷
     asks 4 (Create city (story fire)) IsKept ∷
     asks 5 (Lock 1 session) IsKept ∷
     asks 6 (Publish 1 session None (Some 2000) []) IsKept ∷
@@ -86,8 +86,8 @@ evening = after (happens headlines) day
 abbrev pub answers_of : World → List Answer
 answers_of w = reverse (map (λ g. g.answer) w.out)
 
-abbrev pub payloads : List Frame → List Bytes
-payloads frames = map (λ f. f.payload) frames
+abbrev pub contents : List Frame → List Bytes
+contents frames = map (λ f. f.payload) frames
 
 abbrev pub done : ℕ → ℕ → ℕ → ℕ → Answer
 done entry item publication release = Replied (Done (record { entry = entry; item = item; publication = publication; release = release }))

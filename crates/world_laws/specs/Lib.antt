@@ -1,9 +1,8 @@
-pub mod Receiver
 pub mod World
 pub mod FeedOrder
 pub mod Headline
 pub mod Growth
-pub mod Keeps
+pub mod Facts
 pub mod Bridge
 pub mod Example
 pub mod WrongWorlds

@@ -15,7 +15,7 @@ const ENTRY: &[u8] = b"\0\0\0\0\0\0\x03\xe8\x06\x05admin\0\0\0\0\0\0\0\x01\x03\x
 
 /// The frame of a payload.
 fn frame_of(alloc: Global, payload: &[u8]) -> Result<Vec<u8>, AllocError>
-    requires { length payload.now ≤ 2097152 }
+    requires { length payload.now ≤ 4194304 }
     ensures { IfOk result (λ bytes. IsFramed bytes.items) }
 {
     let mut bytes = (payload.len() as u32).to_be_bytes().to_vec(alloc)?;
@@ -30,7 +30,7 @@ fn appended<K: Keeper>(
     alloc: Global,
     payload: &[u8],
 ) -> Result<Result<(), AppendFault>, AllocError>
-    requires { length payload.now ≤ 2097152 }
+    requires { length payload.now ≤ 4194304 }
 {
     let framed = frame_of(alloc, payload)?;
     Ok(keeper.append(framed.as_slice(), LIMIT))

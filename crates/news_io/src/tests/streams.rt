@@ -56,12 +56,15 @@ fn a_sink_takes_what_it_is_given_up_to_a_failure(rt: HostRuntime) -> Result<(), 
         assert_eq!(rt; sink.fault_count(), 1, "refused growth counts");
         return Err(Fail::new("no memory"));
     }
+    assert_eq!(rt; sink.passed(), [].as_slice(), "held back up to a flush");
     assert!(rt; sink.flush().is_ok());
     assert_eq!(rt; sink.as_bytes(), TEXT);
+    assert_eq!(rt; sink.passed(), TEXT);
     let mut sink = sink.failing_at(numbers(alloc, &[2, 3])?);
     assert!(rt; write_all(&mut sink, b"Smoke.").is_err());
     assert!(rt; sink.flush().is_err());
     assert_eq!(rt; sink.as_bytes(), b"fire in StrasseSmok".as_slice());
+    assert_eq!(rt; sink.passed(), TEXT, "a failed flush passes nothing on");
     assert_eq!(rt; sink.fault_count(), 2);
     Ok(())
 }

@@ -24,7 +24,11 @@ fn record(alloc: Global, at: u64, payload: &[u8]) -> Result<Record, Fail>
     ensures { IfOk result (λ r. r.at ≡ at) }
 {
     match Bytes::copy_of(alloc, payload) {
-        Ok(bytes) => Ok(Record { at, bytes }),
+        Ok(bytes) => Ok(Record {
+            at,
+            side: false,
+            bytes,
+        }),
         Err(_) => Err(Fail::new("no memory")),
     }
 }

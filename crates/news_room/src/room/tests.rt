@@ -1,14 +1,13 @@
 //! Requests to a room over a keeper in memory, and the place that is left for them.
 ghost use Rattle.std.specs.Prelude.{IsTrue};
-ghost use Rattle.entry_codec.specs.Fits.{FitsAct, FitsCommand};
-ghost use Rattle.newsroom.specs.Built.{IsBuilt, is_built};
+ghost use Rattle.news_types.specs.FitsCommands.{FitsCommand};
+ghost use Rattle.entry_codec.specs.Fits.{FitsAct};
 ghost use Rattle.news_room.specs.Stands.{SomeBook};
 
 use crate::{Answered, Room};
 use entry_codec::decode;
 use news_io::{Keeper, MemoryKeeper};
 use news_types::{Act, Answer, Command, Denial, FeedRow, FeedRows, Kind, Name, Query, Reply};
-use newsroom::{can_answer, can_do};
 use std::alloc::Global;
 use std::process::Abort;
 use uuid::Uuid;
@@ -43,7 +42,7 @@ fn tell(answered: Answered) -> Told {
 
 /// A room with no entry, over a keeper that uses so many bytes.
 fn room_beside(rt: &impl Abort, alloc: Global, used: u64) -> Room<MemoryKeeper>
-    ensures { SomeBook ⟦<MemoryKeeper as Keeper>⟧.used ⟦<MemoryKeeper as Keeper>⟧.tells ⟦<MemoryKeeper as Keeper>⟧.list ⟦<MemoryKeeper as Keeper>⟧.doubts result }
+    ensures { SomeBook ⟦<MemoryKeeper as Keeper>⟧.keeper result }
 {
     let keeper = MemoryKeeper::starting_at(alloc, used);
     match Room::open(alloc, keeper, Uuid::nil(), &[]) {
@@ -54,10 +53,8 @@ fn room_beside(rt: &impl Abort, alloc: Global, used: u64) -> Room<MemoryKeeper>
 
 /// The command of a request.
 fn command_of(rt: &impl Abort, act: Act) -> Command
-    requires fits { FitsAct act }
-    requires built { IsBuilt act }
-    ensures fits { FitsCommand result }
-    ensures built { IsTrue (is_built result) }
+    requires { FitsAct act }
+    ensures { FitsCommand result }
 {
     match act {
         Act::Request { command, .. } => command,
@@ -67,15 +64,11 @@ fn command_of(rt: &impl Abort, act: Act) -> Command
 
 /// The command of an entry.
 fn read(rt: &impl Abort, alloc: Global, payload: &[u8]) -> Command
-    ensures fits { FitsCommand result }
-    ensures built { IsTrue (is_built result) }
+    ensures { FitsCommand result }
 {
     let Ok(entry) = decode(alloc, payload) else {
         panic!(rt; "no entry")
     };
-    if !can_do(&entry.act) {
-        panic!(rt; "no request that can be done");
-    }
     command_of(rt, entry.act)
 }
 
@@ -87,8 +80,8 @@ fn send(
     number: u64,
     payload: &[u8],
 ) -> Told
-    requires { SomeBook ⟦<MemoryKeeper as Keeper>⟧.used ⟦<MemoryKeeper as Keeper>⟧.tells ⟦<MemoryKeeper as Keeper>⟧.list ⟦<MemoryKeeper as Keeper>⟧.doubts room.old }
-    ensures { SomeBook ⟦<MemoryKeeper as Keeper>⟧.used ⟦<MemoryKeeper as Keeper>⟧.tells ⟦<MemoryKeeper as Keeper>⟧.list ⟦<MemoryKeeper as Keeper>⟧.doubts room.new }
+    requires { SomeBook ⟦<MemoryKeeper as Keeper>⟧.keeper room.old }
+    ensures { SomeBook ⟦<MemoryKeeper as Keeper>⟧.keeper room.new }
 {
     let command = read(rt, alloc, payload);
     let caller = Name::read("admin").expect(rt, "a name");
@@ -97,15 +90,12 @@ fn send(
 
 /// The rows of the feed of `alpha`.
 fn rows_of(rt: &impl Abort, room: &Room<MemoryKeeper>) -> Option<FeedRows>
-    requires { SomeBook ⟦<MemoryKeeper as Keeper>⟧.used ⟦<MemoryKeeper as Keeper>⟧.tells ⟦<MemoryKeeper as Keeper>⟧.list ⟦<MemoryKeeper as Keeper>⟧.doubts room.now }
+    requires { SomeBook ⟦<MemoryKeeper as Keeper>⟧.keeper room.now }
 {
     let query = Query::Feed {
         subscriber: Name::read("alpha").expect(rt, "a name"),
         after: 0,
     };
-    if !can_answer(&query) {
-        return None;
-    }
     match room.ask(&query) {
         Ok(Answer::Feed { entries, .. }) => Some(entries),
         _ => None,

@@ -6,3 +6,6 @@ returns-clause-order c = laws.by_number
 
 pub returns-clause-kill : goal.returns-clause-kill
 returns-clause-kill c = laws.permitted_now
+
+pub returns-clause-waiting : goal.returns-clause-waiting
+returns-clause-waiting c = laws.despite

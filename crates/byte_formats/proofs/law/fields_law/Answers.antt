@@ -7,6 +7,7 @@ use Rattle.byte_formats.proofs.Texts.{text_lawful}
 use Rattle.byte_formats.proofs.Options.{flag_lawful}
 use Rattle.byte_formats.proofs.Words.{word_lawful, literal_lawful}
 use Rattle.byte_formats.proofs.Numerals.{numeral_lawful}
+use Rattle.byte_formats.proofs.Varints.{varint_lawful}
 use Rattle.byte_formats.proofs.law.fields_law.Goals as goal
 
 pub returns : goal.returns
@@ -17,6 +18,7 @@ returns c = record {
   u16_upto = λ most fits. upto_lawful w16 (2 ^ 16) most wide16 fits;
   u32_upto = λ most fits. upto_lawful w32 (2 ^ 32) most wide32 fits;
   u64_upto = λ most fits. upto_lawful w64 (2 ^ 64) most wide64 fits;
+  varints = varint_lawful;
   flags = flag_lawful;
   names = name_lawful;
   texts = text_lawful;

@@ -1,4 +1,4 @@
-use Rattle.std.proofs.Common.{sym, refl, ◌∙◌}
+use Rattle.std.proofs.Common.{sym, ◌∙◌}
 use Rattle.std.proofs.lemmas.Bool.{false≢true}
 use Rattle.desk_lines.proofs.Reading.{json_of-some, json_of-none}
 use Rattle.desk_lines.proofs.lines.json_value.Goals as goal

@@ -1,8 +1,8 @@
 use Rattle.std.proofs.Common.{◌++◌, List, ℕ, subst}
-use Rattle.http_wire.specs.Wires.{IsWire}
+use Rattle.http_wire.specs.Wires.{IsWire, given}
 use Rattle.http_wire.proofs.read.read_next.Goals as goal
 
-pub returns-in-Head-clause-wire : goal.returns-in-Head-clause-wire
-returns-in-Head-clause-wire g c tells =
-    subst (λ (input : List ℕ). IsWire input (c.read_rest.new.bytes.items ++ g.S.Source.ahead c.read_rest.new.source) c.read_rest.result)
-    (c.in-Head.ensures.sought tells) (c.read_rest.ensures.wire (c.in-Head.ensures.told tells))
+pub returns-clause-wire : goal.returns-clause-wire
+returns-clause-wire g c tells =
+    subst (λ (input : List ℕ). IsWire input (c.read_rest.new.bytes.items ++ g.S.Source.source.ahead c.read_rest.new.source) (given c.read_rest.result))
+    (c.in_ok-head.ensures.input tells) (c.read_rest.ensures.wire (c.in_ok-head.ensures.told tells))

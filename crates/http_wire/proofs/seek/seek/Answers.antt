@@ -1,48 +1,26 @@
-use Rattle.std.proofs.Common.{◌≡◌, ◌≤◌, length, List, ℕ, ◌<◌, sym, subst, arith, ◌∙◌, ap, ◌==◌, false, vec_len}
-use Rattle.std.proofs.lemmas.Bool.Decides.{nat_tests}
-use Rattle.httparse.specs.Grammar.{NeverHasRequest, HasNoRequest, MayBecomeRequest, EndsInTarget}
-use Rattle.httparse.specs.Spans.{IsRequestWithin, IsRequestAt}
-use Rattle.http_wire.specs.Limits.{most_head, front}
-use Rattle.http_wire.specs.Requests.{IsHeadFault, IsTooLarge}
-use Rattle.http_wire.proofs.FrontLemmas.{refused_later, long_later, cut_short, all_left}
+use Rattle.std.proofs.Common.{ℕ, List, ◌++◌, refl, subst, arith}
+use Rattle.std.proofs.lemmas.Result.{err_from_is_err_and}
+use Rattle.http_wire.specs.Wires.{IsWire, stop_wire}
+use Rattle.http_wire.specs.Steps.{IsNoHead}
+use Rattle.http_wire.proofs.Open.{begins_none}
+use Rattle.http_wire.proofs.Stops.{no_head_wire, no_head_at_hand}
 use Rattle.http_wire.proofs.seek.seek.Goals as goal
 
-positive : (n m : ℕ) → (n == 0) ≡ false → n ≡ m → 0 < m
-positive n m e same = grind (arith, nat_tests)
+pub loop-head-init : goal.loop-head-init
+loop-head-init g c = record { told = λ t. t; input = λ t. refl; within = omega arith; begun = begins_none; held = λ h. h; calm = refl }
 
-pub returns-in-Never-clause-sought : goal.returns-in-Never-clause-sought
-returns-in-Never-clause-sought g c tells =
-    let e = c.look.ensures.value ∙ ap front c.deref.ensures.value in
-    let found = c.in-Never.ensures.found in
-    let input = c.loop-head.invariant.input tells in
-    (subst IsHeadFault input (refused_later _ _ (subst NeverHasRequest e found.0) (λ ends. found.1 (subst EndsInTarget (sym e) ends))), input)
+pub returns-in_err-head-clause-wire : goal.returns-in_err-head-clause-wire
+returns-in_err-head-clause-wire g c tells =
+    let p = err_from_is_err_and c.from_residual.result c.from_residual.ensures.1 in
+    let why = c.in_err-head.field-0.0 in
+    let bytes = c.loop-head.bytes.items in
+    let ahead = g.S.Source.source.ahead c.loop-head.source in
+    let is = subst (λ (b : List ℕ). IsNoHead b why) c.deref.ensures.value c.in_err-head.ensures in
+    rw (p.1, p.2) (subst (λ (input : List ℕ). IsWire input (bytes ++ ahead) (stop_wire why)) (c.loop-head.invariant.input tells) (no_head_wire bytes ahead why is))
 
-pub returns-in-Whole-clause-head : goal.returns-in-Whole-clause-head
-returns-in-Whole-clause-head g c =
-    let e = c.look.ensures.value ∙ ap front c.deref.ensures.value in
-    record {
-      within = subst (λ (b : List ℕ). IsRequestWithin b c.decide_head.new.spans c.in-Whole.head) e c.in-Whole.ensures.within;
-      head = c.in-Whole.ensures.found.0;
-      at = subst (λ (b : List ℕ). IsRequestAt b c.decide_head.new.spans c.in-Whole.head c.in-Whole.ensures.found.0) e c.in-Whole.ensures.found.1;
-    }
-
-pub returns-then-len-ge-MOST_HEAD-clause-sought : goal.returns-then-len-ge-MOST_HEAD-clause-sought
-returns-then-len-ge-MOST_HEAD-clause-sought g c tells =
-    let e = c.look.ensures.value ∙ ap front c.deref.ensures.value in
-    let found = c.in-More.ensures.found in
-    let same = ap (λ (l : List ℕ). length l) c.deref.ensures.value in
-    let long : most_head ≤ length c.loop-head.bytes.items = omega (arith, same, c.len.ensures, c.deref.ensures.len, c.if-len-ge-MOST_HEAD.true) in
-    let input = c.loop-head.invariant.input tells in
-    (subst IsTooLarge input (long_later _ _ long (subst HasNoRequest e found.0) (subst MayBecomeRequest e found.1)), input)
-
-pub returns-else-is_empty-clause-sought : goal.returns-else-is_empty-clause-sought
-returns-else-is_empty-clause-sought g c tells =
-    let e = c.look.ensures.value ∙ ap front c.deref.ensures.value in
-    let found = c.in-More.ensures.found in
-    let same = ap (λ (l : List ℕ). length l) c.deref.ensures.value in
-    let short : length c.loop-head.bytes.items < most_head = omega (arith, same, c.len.ensures, c.deref.ensures.len, c.if-len-ge-MOST_HEAD.false) in
-    let f = c.in-End.ensures.filled (c.loop-head.invariant.told tells) in
-    let test : (vec_len c.fill.new.bytes == 0) ≡ false = sym c.is_empty.ensures ∙ c.if-is_empty.false in
-    let some : 0 < length c.loop-head.bytes.items = positive _ _ test (omega (arith, same, c.in-End.ensures.grows, c.deref.ensures.len)) in
-    let input = c.loop-head.invariant.input tells in
-    (subst IsHeadFault input (cut_short _ _ short some (subst HasNoRequest e found.0) f.1), all_left _ _ _ _ _ f.0 f.1 f.2 input)
+pub returns-in_err-head-clause-at_hand : goal.returns-in_err-head-clause-at_hand
+returns-in_err-head-clause-at_hand g c =
+    let p = err_from_is_err_and c.from_residual.result c.from_residual.ensures.1 in
+    let why = c.in_err-head.field-0.0 in
+    let is = subst (λ (b : List ℕ). IsNoHead b why) c.deref.ensures.value c.in_err-head.ensures in
+    rw (p.1, p.2) (no_head_at_hand c.loop-head.bytes.items why is)

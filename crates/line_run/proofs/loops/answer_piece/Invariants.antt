@@ -7,9 +7,9 @@ invariant-loop-count g l = record {
   stands : (shelf : g.A.Answering.Shelf) × ((h : List g.A.Answering.Entry) × (g.A.Answering.life shelf).stands l.machine h);
   short : length l.line.items ≤ l.longest + 2;
   so_far : (shelf : g.A.Answering.Shelf) (h : List g.A.Answering.Entry) (begun : List ℕ) → (g.A.Answering.life shelf).stands l.fn.machine h → l.fn.line.items ≡ take (l.longest + 2) begun
-      → PieceSoFar (g.A.Answering.meaning shelf) (g.A.Answering.life shelf) g.O.Sink.tells g.O.Sink.taken l.longest l.fn.machine l.machine l.fn.output l.output h begun l.piece l.line.items l.rest;
+      → PieceSoFar (g.A.Answering.meaning shelf) (g.A.Answering.life shelf) g.O.Sink.sink l.longest l.fn.machine l.machine l.fn.output l.output h begun l.piece l.line.items l.rest;
   calm : g.A.Answering.faults l.machine ≡ g.A.Answering.faults l.fn.machine;
-  calm_output : g.O.Sink.faults l.output ≡ g.O.Sink.faults l.fn.output;
+  calm_output : g.O.Sink.sink.faults l.output ≡ g.O.Sink.sink.faults l.fn.output;
 }
 
 abbrev pub decreases-loop-count : goal.decreases-loop-count

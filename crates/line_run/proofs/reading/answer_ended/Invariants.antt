@@ -10,10 +10,10 @@ invariant-pieces g l = record {
   within : l.left ≤ l.most;
   room : 0 < length l.piece;
   so_far : (shelf : g.A.Answering.Shelf) (h : List g.A.Answering.Entry) → (g.A.Answering.life shelf).stands l.fn.machine h
-      → ReadSoFar (g.A.Answering.meaning shelf) (g.A.Answering.life shelf) g.S.Source.tells g.S.Source.ahead g.O.Sink.tells g.O.Sink.taken (ended l.longest) l.most (λ read. l.line.items ≡ take (l.longest + 2) (open_from [] read)) l.fn.input l.input l.fn.machine l.machine l.fn.output l.output h l.left;
+      → ReadSoFar (g.A.Answering.meaning shelf) (g.A.Answering.life shelf) g.S.Source.source g.O.Sink.sink (ended l.longest) l.most (λ read. l.line.items ≡ take (l.longest + 2) (open_from [] read)) l.fn.input l.input l.fn.machine l.machine l.fn.output l.output h l.left;
   calm : g.A.Answering.faults l.machine ≡ g.A.Answering.faults l.fn.machine;
-  calm_output : g.O.Sink.faults l.output ≡ g.O.Sink.faults l.fn.output;
-  calm_input : g.S.Source.faults l.input ≡ g.S.Source.faults l.fn.input;
+  calm_output : g.O.Sink.sink.faults l.output ≡ g.O.Sink.sink.faults l.fn.output;
+  calm_input : g.S.Source.source.faults l.input ≡ g.S.Source.source.faults l.fn.input;
 }
 
 abbrev pub decreases-pieces : goal.decreases-pieces

@@ -7,14 +7,14 @@ use Rattle.news_journal.proofs.making.write_header.Goals as goal
 
 pub returns-in_err-write_through-clause-crash : goal.returns-in_err-write_through-clause-crash
 returns-in_err-write_through-clause-crash g c = λ told empty.
-    let bare = bare_file g.D.Disk.tells g.D.Disk.seen g.D.Disk.may_leave g.met.D.Disk.no_longer c.args.disk.now told empty in
+    let bare = bare_file g.D.Disk.disk c.args.disk.now told empty in
     let size : length c.behind_first-behind.result ≡ 64 = search rules in
     elapses_weaker _ _ _ _ _ _ (c.write_through.ensures.time told)
     (λ f step. first_crash c.args.header.now _ c.behind_first-behind.ensures.bytes size c.behind_first-behind.ensures.form f (subst (λ (d : List ℕ). Torn 0 1 d f) (bare step.0 (inr step.1)) step.2))
 
 pub returns-in_err-write_through-2-clause-crash : goal.returns-in_err-write_through-2-clause-crash
 returns-in_err-write_through-2-clause-crash g c = λ told empty.
-    let bare = bare_file g.D.Disk.tells g.D.Disk.seen g.D.Disk.may_leave g.met.D.Disk.no_longer c.args.disk.now told empty in
+    let bare = bare_file g.D.Disk.disk c.args.disk.now told empty in
     let size : length c.behind_first-behind.result ≡ 64 = search rules in
     let one = made_first _ _ (bare _ (inl refl)) (c.in_ok-write_through.ensures.written told (omega arith)) in
     elapses_then _ _ _ _ _ _ _
@@ -25,7 +25,7 @@ returns-in_err-write_through-2-clause-crash g c = λ told empty.
 
 pub returns-clause-seen : goal.returns-clause-seen
 returns-clause-seen g c = λ told empty.
-    let bare = bare_file g.D.Disk.tells g.D.Disk.seen g.D.Disk.may_leave g.met.D.Disk.no_longer c.args.disk.now told empty in
+    let bare = bare_file g.D.Disk.disk c.args.disk.now told empty in
     let one = made_first _ _ (bare _ (inl refl)) (c.in_ok-write_through.ensures.written told (omega arith)) in
     let told_on = c.write_through.ensures.told told in
     let two = made_second _ _ _ one (c.in_ok-write_through-2.ensures.written told_on (omega (arith, ap length one))) in
@@ -33,7 +33,7 @@ returns-clause-seen g c = λ told empty.
 
 pub returns-clause-crash : goal.returns-clause-crash
 returns-clause-crash g c = λ told empty.
-    let bare = bare_file g.D.Disk.tells g.D.Disk.seen g.D.Disk.may_leave g.met.D.Disk.no_longer c.args.disk.now told empty in
+    let bare = bare_file g.D.Disk.disk c.args.disk.now told empty in
     let size : length c.behind_first-behind.result ≡ 64 = search rules in
     let one = made_first _ _ (bare _ (inl refl)) (c.in_ok-write_through.ensures.written told (omega arith)) in
     let told_on = c.write_through.ensures.told told in

@@ -1,4 +1,4 @@
-use Rattle.std.proofs.Common.{◌+◌, ◌<◌, ◌^◌, [], ◌∷◌, ℕ, List, Err, length, drop, refl, sym, ◌∙◌, ap, subst, arith, length-append}
+use Rattle.std.proofs.Common.{◌+◌, ◌<◌, ◌^◌, [], ◌∷◌, ℕ, List, Err, false, length, drop, refl, sym, ◌∙◌, ap, subst, arith, length-append}
 use Rattle.std.specs.Prelude.{All}
 use Rattle.std.proofs.lemmas.List.Elements.{All-push}
 use Rattle.std.proofs.lemmas.Result.{err_from_is_err_and}
@@ -22,11 +22,11 @@ loop-records-preserved g c =
     let inv = c.loop-records.invariant in
     let room = rw c.in-Some.is at c.in_ok-bytes.ensures.small in
     record {
-      place = one_longer c.loop-records.gate _ c.loop-records.records.items _ (record { at = c.loop-records.gate; bytes = c.in-Some.bytes }) _ c.in_ok-push.ensures.items inv.place refl (ap length c.as_slice.ensures);
+      place = one_longer c.loop-records.gate _ c.loop-records.records.items _ (record { at = c.loop-records.gate; side = false; bytes = c.in-Some.bytes }) _ c.in_ok-push.ensures.items inv.place refl (ap length c.as_slice.ensures);
       small = omega (arith, room, ap length c.as_slice.ensures);
-      count = omega (arith, inv.count, ap length c.in_ok-push.ensures.items, length-append c.loop-records.records.items (record { at = c.loop-records.gate; bytes = c.in-Some.bytes } ∷ []));
-      at = subst (All (λ (r : Record). r.at < 2 ^ 30)) (sym c.in_ok-push.ensures.items) (All-push (λ (r : Record). r.at < 2 ^ 30) c.loop-records.records.items (record { at = c.loop-records.gate; bytes = c.in-Some.bytes }) inv.at inv.small);
-      still = still_then _ _ _ _ _ _ _ _ inv.still c.read_record.ensures.still;
+      count = omega (arith, inv.count, ap length c.in_ok-push.ensures.items, length-append c.loop-records.records.items (record { at = c.loop-records.gate; side = false; bytes = c.in-Some.bytes } ∷ []));
+      at = subst (All (λ (r : Record). r.at < 2 ^ 30)) (sym c.in_ok-push.ensures.items) (All-push (λ (r : Record). r.at < 2 ^ 30) c.loop-records.records.items (record { at = c.loop-records.gate; side = false; bytes = c.in-Some.bytes }) inv.at inv.small);
+      still = still_then _ _ _ _ inv.still c.read_record.ensures.still;
       calm = c.in_ok-bytes.ensures.calm ∙ inv.calm;
       shows = λ told shows.
           let shows_on = subst (Shows c.loop-records.window) (sym inv.still.seen_same) (inv.shows told shows) in
@@ -34,8 +34,8 @@ loop-records-preserved g c =
       so_far = λ told shows long.
           let shows_on = subst (Shows c.loop-records.window) (sym inv.still.seen_same) (inv.shows told shows) in
           let reads = rw inv.still.seen_same at (rw c.in-Some.is at (c.in_ok-bytes.ensures.reads (inv.still.told told) shows_on)) in
-          subst (λ rs. SoFar (g.D.Disk.seen c.args.disk.now) (c.loop-records.gate + (5 + length c.as_slice.result.now)) rs) (sym c.in_ok-push.ensures.items)
-          (one_further _ c.loop-records.gate c.loop-records.records.items (inv.so_far told shows long) (record { at = c.loop-records.gate; bytes = c.in-Some.bytes }) reads.0 _ refl reads.1 reads.2 reads.3 reads.4 (omega (arith, ap length c.as_slice.ensures)));
+          subst (λ rs. SoFar (g.D.Disk.disk.seen c.args.disk.now) (c.loop-records.gate + (5 + length c.as_slice.result.now)) rs) (sym c.in_ok-push.ensures.items)
+          (one_further _ c.loop-records.gate c.loop-records.records.items (inv.so_far told shows long) (record { at = c.loop-records.gate; side = false; bytes = c.in-Some.bytes }) reads.0 _ refl reads.1 reads.2 reads.3 reads.4 (omega (arith, ap length c.as_slice.ensures)));
     }
 
 pub returns-clause-reads : goal.returns-clause-reads

@@ -13,10 +13,10 @@ invariant-loop-records g l = record {
   small : l.gate < 2 ^ 30;
   count : length l.records.items + 64 ≤ l.gate;
   at : All (λ (r : Record). r.at < 2 ^ 30) l.records.items;
-  still : Still g.D.Disk.tells g.D.Disk.seen g.D.Disk.may_leave g.D.Disk.moment g.D.Disk.left_since l.fn.disk l.disk;
-  calm : g.D.Disk.faults l.disk ≡ g.D.Disk.faults l.fn.disk;
-  shows : g.D.Disk.tells l.fn.disk → Shows l.fn.window (g.D.Disk.seen l.fn.disk) → Shows l.window (g.D.Disk.seen l.fn.disk);
-  so_far : g.D.Disk.tells l.fn.disk → Shows l.fn.window (g.D.Disk.seen l.fn.disk) → 64 ≤ length (g.D.Disk.seen l.fn.disk) → SoFar (g.D.Disk.seen l.fn.disk) l.gate l.records.items;
+  still : Still g.D.Disk.disk l.fn.disk l.disk;
+  calm : g.D.Disk.disk.faults l.disk ≡ g.D.Disk.disk.faults l.fn.disk;
+  shows : g.D.Disk.disk.tells l.fn.disk → Shows l.fn.window (g.D.Disk.disk.seen l.fn.disk) → Shows l.window (g.D.Disk.disk.seen l.fn.disk);
+  so_far : g.D.Disk.disk.tells l.fn.disk → Shows l.fn.window (g.D.Disk.disk.seen l.fn.disk) → 64 ≤ length (g.D.Disk.disk.seen l.fn.disk) → SoFar (g.D.Disk.disk.seen l.fn.disk) l.gate l.records.items;
 }
 
 abbrev pub decreases-loop-records : goal.decreases-loop-records

@@ -1,6 +1,6 @@
 use Rattle.std.proofs.Common.{arith}
 use Rattle.std.proofs.lemmas.Result.{err_from_is_err_and}
-use Rattle.news_room.proofs.Openings.{as_many, read_more, damaged_here}
+use Rattle.news_room.proofs.Openings.{as_many, read_more, damaged_here, read_all}
 use Rattle.news_room.proofs.opening.read.Goals as goal
 
 pub take-requires-clause-stands : goal.take-requires-clause-stands
@@ -18,3 +18,8 @@ pub loop-here-preserved : goal.loop-here-preserved
 loop-here-preserved c =
     let inv = c.loop-here.invariant in
     read_more c.args.records.now c.loop-here.here-index c.here-item.result c.loop-here-test.true c.here-item.is c.loop-here.machine _ inv.0 inv.1 (c.in_ok-take.ensures inv.0 inv.1.stands inv.1.opens.kept)
+
+pub returns : goal.returns
+returns c =
+    let inv = c.loop-here.invariant in
+    (inv.0, read_all c.args.records.now c.loop-here.here-index c.loop-here.machine inv.0 (omega (arith, c.loop-here-test.false)) inv.1)

@@ -6,7 +6,7 @@ use Rattle.news_room.proofs.Openings.{no_entry_told, entry_told}
 use Rattle.news_room.proofs.opening.take.Goals as goal
 
 pub keep-kept-requires : goal.keep-kept-requires
-keep-kept-requires c = record { stands = c.requires.stands }
+keep-kept-requires c = record { stands = c.requires.stands; early = c.in-Ok.ensures.found.0.fits.moment }
 
 pub no_entry-requires-clause-at : goal.no_entry-requires-clause-at
 no_entry-requires-clause-at c = c.requires.place

@@ -1,8 +1,8 @@
 use Rattle.std.proofs.Common.{refl, rules}
 use Rattle.newsdesk_cli.proofs.batch.answer_input.Goals as goal
 
-pub run_batch-requires-clause-stands : goal.run_batch-requires-clause-stands
-run_batch-requires-clause-stands g c =
+pub run_lines-requires-clause-stands : goal.run_lines-requires-clause-stands
+run_lines-requires-clause-stands g c =
     let b = c.requires.holds.0 in
     let before = c.requires.holds.1.0 in
     let holds = c.requires.holds.1.1 in
@@ -10,8 +10,8 @@ run_batch-requires-clause-stands g c =
 
 pub returns-clause-answered : goal.returns-clause-answered
 returns-clause-answered g c b before holds =
-    let run = c.run_batch.ensures.run (record { store = b.store; told = b.told; before = before; room = _; clock = _ }) b.list (record { room_stands = holds.stands; uses = holds.uses; same_room = refl; same_clock = refl }) in
-    let crash = c.run_batch.ensures.crash (record { store = b.store; told = b.told; before = before; room = _; clock = _ }) b.list (record { room_stands = holds.stands; uses = holds.uses; same_room = refl; same_clock = refl }) in
+    let run = c.run_lines.ensures.run (record { store = b.store; told = b.told; before = before; room = _; clock = _ }) b.list (record { room_stands = holds.stands; uses = holds.uses; same_room = refl; same_clock = refl }) in
+    let crash = c.run_lines.ensures.crash (record { store = b.store; told = b.told; before = before; room = _; clock = _ }) b.list (record { room_stands = holds.stands; uses = holds.uses; same_room = refl; same_clock = refl }) in
     let same_room = crash.stands.same_room in
     let same = crash.stands.same_clock in
     record {
@@ -19,7 +19,7 @@ returns-clause-answered g c b before holds =
       same_book = refl;
       same_start = refl;
       old = _;
-      new = c.run_batch.new.machine;
+      new = c.run_lines.new.machine;
       before = record { room_is = refl; clock_is = refl };
       after = record { room_is = search rules; clock_is = search rules };
       run = run;
@@ -31,6 +31,6 @@ returns-clause-complete g c told few reads writes keeper =
     let b = c.requires.holds.0 in
     let before = c.requires.holds.1.0 in
     let holds = c.requires.holds.1.1 in
-    let crash = c.run_batch.ensures.crash (record { store = b.store; told = b.told; before = before; room = _; clock = _ }) b.list (record { room_stands = holds.stands; uses = holds.uses; same_room = refl; same_clock = refl }) in
+    let crash = c.run_lines.ensures.crash (record { store = b.store; told = b.told; before = before; room = _; clock = _ }) b.list (record { room_stands = holds.stands; uses = holds.uses; same_room = refl; same_clock = refl }) in
     let same_room = crash.stands.same_room in
-    c.run_batch.ensures.complete told few reads writes (λ rose. keeper (search rules))
+    c.run_lines.ensures.complete told few reads writes (λ rose. keeper (search rules))

@@ -1,6 +1,6 @@
 use Rattle.std.proofs.Common.{◌∙◌, refl, ℕ, List, [], ◌∷◌, ◌++◌, ap, subst, sym}
 use Rattle.news_types.specs.declared.query.Query.TheVariants.{Check}
-use Rattle.desk_lines.specs.Answers.{answer_bytes, HasLine}
+use Rattle.desk_answers.specs.Answers.{answer_bytes, HasLine}
 use Rattle.newsdesk_cli.specs.Lines.{no_frames}
 use Rattle.newsdesk_cli.proofs.Desks.{has_line}
 use Rattle.newsdesk_cli.proofs.check.check_text.Goals as goal

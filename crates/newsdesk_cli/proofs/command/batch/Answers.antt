@@ -6,8 +6,8 @@ use Rattle.newsdesk_cli.proofs.command.batch.Goals as goal
 
 pub answer_input-status-requires : goal.answer_input-status-requires
 answer_input-status-requires g c =
-    let d = g.D.Disk in
-    record { holds = some_book d.tells d.seen d.may_leave d.moment d.left_since g.met.D.Disk.only_now d.faults _ _ _ _ c.args.log c.in-Ok.room c.in-Ok.ensures.opened }
+    let d = g.D.Disk.disk in
+    record { holds = some_book d c.args.log c.in-Ok.room c.in-Ok.ensures.opened }
 
 pub returns-in-Ok : goal.returns-in-Ok
 returns-in-Ok g c =
@@ -19,7 +19,7 @@ returns-in-Ok g c =
       after = c.answer_input-status.new.room;
       same = same;
       answered = λ told only. done.answered (record { store = c.in-Ok.ensures.opened.store; told = told; list = c.in-Ok.ensures.opened.history }) 65 (c.in-Ok.ensures.opened.holds told only);
-      complete = λ given few reads writes disk. done.complete given few reads writes (λ rose. disk (subst (λ x. Rose (g.D.Disk.faults (disk_of c.in-Ok.room.keeper)) (g.D.Disk.faults x)) (sym same) rose));
+      complete = λ given few reads writes disk. done.complete given few reads writes (λ rose. disk (subst (λ n. Rose n (g.D.Disk.disk.faults c.into_disk.result)) c.in-Ok.ensures.opened.calm (subst (λ x. Rose (g.D.Disk.disk.faults (disk_of c.in-Ok.room.keeper)) (g.D.Disk.disk.faults x)) (sym same) rose)));
     })
 
 pub returns-in-Err : goal.returns-in-Err

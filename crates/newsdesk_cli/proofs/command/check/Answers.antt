@@ -6,8 +6,8 @@ use Rattle.newsdesk_cli.proofs.command.check.Goals as goal
 
 pub check_line-status-requires : goal.check_line-status-requires
 check_line-status-requires g c =
-    let d = g.D.Disk in
-    let found = some_book d.tells d.seen d.may_leave d.moment d.left_since g.met.D.Disk.only_now d.faults _ _ _ _ c.args.log c.in-Ok.room c.in-Ok.ensures.opened in
+    let d = g.D.Disk.disk in
+    let found = some_book d c.args.log c.in-Ok.room c.in-Ok.ensures.opened in
     (found.0, found.1.1.stands)
 
 pub returns-in-Ok : goal.returns-in-Ok

@@ -1,5 +1,3 @@
-use Rattle.std.proofs.Common.{◌+◌}
-use Rattle.news_journal.specs.Stands.{Logs, Doubts, list_of}
 use Rattle.newsdesk_cli.proofs.Stores.{opened_behind, err_behind}
 use Rattle.newsdesk_cli.proofs.store.open_room.Goals as goal
 
@@ -8,14 +6,13 @@ returns-in-Some-clause-refused g c = c.in-Some.ensures.some
 
 pub returns-in-None-clause-opened : goal.returns-in-None-clause-opened
 returns-in-None-clause-opened g c =
-    let d = g.D.Disk in
-    opened_behind d.tells d.seen d.may_leave d.moment d.left_since d.faults
-    (λ j. j.gate + 1) (λ j. Logs d.tells d.seen d.may_leave j (list_of d.seen j)) (λ j. list_of d.seen j) (λ j. Doubts d.tells d.seen d.may_leave j (list_of d.seen j))
+    let d = g.D.Disk.disk in
+    opened_behind d
     c.args.log c.kind_trouble.new.log c.open_log.result
     c.kind_trouble.ensures.still (c.kind_trouble.ensures.calm c.in-None.is) c.open_log.ensures.opened
 
 pub returns-in-None-clause-refused : goal.returns-in-None-clause-refused
 returns-in-None-clause-refused g c =
-    let d = g.D.Disk in
-    err_behind d.tells d.seen d.may_leave d.moment d.left_since d.faults c.args.log c.kind_trouble.new.log c.open_log.result
+    let d = g.D.Disk.disk in
+    err_behind d c.args.log c.kind_trouble.new.log c.open_log.result
     c.kind_trouble.ensures.still (c.kind_trouble.ensures.calm c.in-None.is) (c.kind_trouble.ensures.none c.in-None.is) c.open_log.ensures.cause c.open_log.ensures.count c.open_log.ensures.still

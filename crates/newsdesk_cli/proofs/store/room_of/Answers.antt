@@ -1,5 +1,4 @@
-use Rattle.std.proofs.Common.{◌+◌, length, arith, ap}
-use Rattle.news_journal.specs.Stands.{Logs, Doubts, list_of}
+use Rattle.std.proofs.Common.{length, arith, ap}
 use Rattle.newsdesk_cli.proofs.Stores.{not_room, early, is_room, no_room}
 use Rattle.newsdesk_cli.proofs.store.room_of.Goals as goal
 
@@ -14,10 +13,8 @@ open-requires-clause-places g c = early c.args.opened.records c.as_slice.result.
 
 pub returns-in-Ok-clause-room : goal.returns-in-Ok-clause-room
 returns-in-Ok-clause-room g c =
-    let d = g.D.Disk in
     is_room c.args.opened c.in-Room.store c.as_slice.result.now c.in-Room.is c.as_slice.ensures
-    (λ j. j.gate + 1) (λ j. Logs d.tells d.seen d.may_leave j (list_of d.seen j)) (λ j. list_of d.seen j) (λ j. Doubts d.tells d.seen d.may_leave j (list_of d.seen j))
-    c.in-Ok.room c.in-Ok.ensures
+    g.D.Disk.disk c.in-Ok.room c.in-Ok.ensures
 
 pub returns-clause-none : goal.returns-clause-none
 returns-clause-none g c =

@@ -14,7 +14,7 @@ pub returns-clause-size : goal.returns-clause-size
 returns-clause-size c fits short =
     let same : (bytes : List ℕ) → bytes ≡ compact_text (object _) → bytes ≡ item_bytes c.args.publication.now c.args.uri.now =
     λ bytes is. is ∙ ap (λ ms. compact_text (object ms)) c.in_ok-members.ensures.members in
-    IfOk-weaker c.written.result _ (λ bytes. length bytes ≤ 2_097_088) (λ bytes is. subst (λ b. length b ≤ 2_097_088) (sym (same bytes is))
+    IfOk-weaker c.written.result _ (λ bytes. length bytes ≤ 4_194_240) (λ bytes is. subst (λ b. length b ≤ 4_194_240) (sym (same bytes is))
     (item_most c.args.publication.now c.args.uri.now fits short c.in_ok-members.ensures.version)) c.written.ensures.value
 
 pub returns-clause-read_again : goal.returns-clause-read_again
@@ -23,6 +23,6 @@ returns-clause-read_again c fits some short =
     let p = c.args.publication.now in
     let named = c.args.uri.now in
     let flat = ap (λ ms. depth (object ms)) is.members ∙ item_flat p named in
-    with_both c.written.result (λ bytes. length bytes ≤ 2_097_088) _ (λ bytes. ninjs bytes ≡ Ok (told p named))
+    with_both c.written.result (λ bytes. length bytes ≤ 4_194_240) _ (λ bytes. ninjs bytes ≡ Ok (told p named))
     (λ bytes few json. bytes_told p named bytes fits some short is.release few (json ∙ ap (λ ms. Some (object ms)) is.members))
     (returns-clause-size c fits short) (c.written.ensures.read_again (omega (arith, flat)))

@@ -7,7 +7,7 @@ use Rattle.publish_queue.proofs.feeds.settle_at.Goals as goal
 pub returns-clause-sets : goal.returns-clause-sets
 returns-clause-sets c = sets _ _ _ c.index_mut-feed.result.now c.set_turn.new.self (omega (arith, c.args.feeds.now.ok.0, c.requires)) c.index_mut-feed.ensures.value (record {
   alike = c.set_turn.ensures.alike;
-  turn = λ up. c.set_turn.ensures.turn ∙ c.ready_at-turn.ensures up ∙ sym (row_turn_alike _ _ _ c.set_turn.ensures.alike);
+  turn = c.set_turn.ensures.turn ∙ c.ready_at-turn.ensures ∙ sym (row_turn_alike _ _ c.set_turn.ensures.alike);
   fits = c.set_turn.ensures.fits;
 })
 

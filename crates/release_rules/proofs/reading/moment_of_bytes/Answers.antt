@@ -17,5 +17,8 @@ returns c =
     let fits : FitsSigned w64 (seconds -ℤ offset) = omega (arith, signed_arith, c.in_ok-seconds.ensures.bound, c.in_ok-offset.ensures.bound) in
     let fits-seconds : FitsSigned w64 seconds = omega (arith, signed_arith, c.in_ok-seconds.ensures.bound) in
     let fits-offset : FitsSigned w64 offset = omega (arith, signed_arith, c.in_ok-offset.ensures.bound) in
-    let shown = simp to_z-of_z at c.moment_in_range.ensures in
+    let wide : c.from.result ≡ offset = search rules in
+    let fits-wide : FitsSigned w64 c.from.result = rw wide fits-offset in
+    let fits-both : FitsSigned w64 (seconds -ℤ c.from.result) = rw wide fits in
+    let shown = rw wide at simp to_z-of_z at c.moment_in_range.ensures in
     shown ∙ in_range-moment_of text rest seconds offset long clock zone at

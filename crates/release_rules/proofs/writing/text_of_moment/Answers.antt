@@ -33,9 +33,9 @@ returns-clause-value c =
     let le : kept ≤ last_moment = omega arith in
     let seconds : civil_seconds dt ≡ pos kept = omega (arith, signed_arith, civil_nanos-civil_seconds dt, c.civil_at-shown.ensures) in
     let same : parts_of dt y is ≡ civil_at kept = seconds_of-injective (parts_of dt y is) (civil_at kept) (civil_parts dt y is) (civil_at-is kept le) (sym (civil_value dt y is) ∙ seconds ∙ sym (civil_at-seconds kept le)) in
-    let written = spelled c.two_digits.result c.two_digits-2.result c.two_digits-3.result c.two_digits-4.result c.two_digits-5.result c.two_digits-6.result c.two_digits-7.result
+    let written = spelled c.digits_of.result c.digits_of-2.result c.digits_of-3.result c.digits_of-4.result c.digits_of-5.result c.digits_of-6.result c.digits_of-7.result
     (y / 100) (y % 100) dt.date.month dt.date.day dt.time.hour dt.time.minute dt.time.second
-    c.two_digits.ensures c.two_digits-2.ensures c.two_digits-3.ensures c.two_digits-4.ensures c.two_digits-5.ensures c.two_digits-6.ensures c.two_digits-7.ensures in
+    c.digits_of.ensures c.digits_of-2.ensures c.digits_of-3.ensures c.digits_of-4.ensures c.digits_of-5.ensures c.digits_of-6.ensures c.digits_of-7.ensures in
     written ∙ ap (λ (shown : Civil). civil_text shown ++ codes "Z") same
 
 pub returns-clause-names : goal.returns-clause-names

@@ -1,9 +1,7 @@
 use Rattle.std.proofs.Common.{ap, sym, ◌∙◌}
-use Rattle.news_types.specs.Conditions.{condition, condition_count}
-use Rattle.news_types.specs.Filters.{filters}
 use Rattle.news_types.specs.Routing as said
 use Rattle.routing_rules.proofs.routing.passes.Goals as goal
 
 pub returns-in-Some : goal.returns-in-Some
 returns-in-Some c h story v =
-    c.matches_with.ensures (condition h) (condition_count h) (filters h) story v.0 v.1 ∙ ap (said.passes h story) (sym c.in-Some.is)
+    c.matches_with.ensures h story v.0 v.1 ∙ ap (said.passes h story) (sym c.in-Some.is)

@@ -15,7 +15,7 @@ use Rattle.routing_rules.proofs.zone.local.Goals as goal
 pub returns-clause-value : goal.returns-clause-value
 returns-clause-value c =
     let kept : ℕ = min c.args.moment last_local in
-    let m : c.min-kept.result ≡ min c.args.moment 253_402_207_200 = c.min-kept.ensures in
+    let m : c.min.result ≡ min c.args.moment 253_402_207_200 = c.min.ensures in
     let n : c.in-Ok.instant.nanosecond ≡ nanos_of_seconds (pos kept) = omega (arith, signed_casts, c.in-Ok.ensures.value, m) in
     let offset : ℤ = offset_at (plain_zone c.args.zone.now) (nanos_of_seconds (pos kept)) in
     let shown : civil_nanos c.to_datetime.result ≡ nanos_of_seconds (pos kept) +ℤ nanos_of_seconds offset =

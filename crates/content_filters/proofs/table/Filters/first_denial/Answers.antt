@@ -1,8 +1,8 @@
-use Rattle.std.proofs.Common.{◌≡◌, true, false, refl, sym, ap, ◌∙◌}
+use Rattle.std.proofs.Common.{sym, ap, ◌∙◌}
 use Rattle.std.specs.HashMap.{get}
 use Rattle.news_types.specs.Names.{same}
-use Rattle.news_types.specs.Filters.{has_filter}
 use Rattle.content_filters.specs.Asked.{new_filter_denial, statements_denial}
+use Rattle.content_filters.proofs.Changed.{or_none}
 use Rattle.content_filters.proofs.Facts.{new_filter, other_statements}
 use Rattle.content_filters.proofs.table.Filters.first_denial.Goals as goal
 
@@ -18,12 +18,6 @@ returns-in-SetFilter-clause-facts c condition count fs keeps =
     let filter = c.in-SetFilter.filter in
     rw c.in-SetFilter.is (c.statements_denial.ensures.value ∙ ap (statements_denial t (get same t.filter_places filter) filter) c.as_slice-in-SetFilter.ensures ∙ other_statements t condition count fs filter c.in-SetFilter.statements keeps)
 
-pub returns-then-has-clause-facts : goal.returns-then-has-clause-facts
-returns-then-has-clause-facts c condition count fs keeps =
-    let there : has_filter c.in-SetBlock.filter fs ≡ true = sym (c.has.ensures condition count fs keeps) ∙ c.if-has.true in
-    rw (c.in-SetBlock.is, there) refl
-
-pub returns-else-has-clause-facts : goal.returns-else-has-clause-facts
-returns-else-has-clause-facts c condition count fs keeps =
-    let there : has_filter c.in-SetBlock.filter fs ≡ false = sym (c.has.ensures condition count fs keeps) ∙ c.if-has.false in
-    rw (c.in-SetBlock.is, there) refl
+pub returns-in-SetBlock-clause-facts : goal.returns-in-SetBlock-clause-facts
+returns-in-SetBlock-clause-facts c condition count fs keeps =
+    rw (c.in-SetBlock.is, ← c.has_filter.ensures condition count fs keeps) (c.unless_there.ensures ∙ sym (or_none _))

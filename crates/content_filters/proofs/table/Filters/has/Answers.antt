@@ -1,8 +1,6 @@
-use Rattle.std.proofs.Common.{is_some, ap, ◌∙◌}
-use Rattle.content_filters.proofs.Ages.{aged}
+use Rattle.news_types.specs.Conditions.{condition, condition_count}
+use Rattle.news_types.specs.Filters.{filters}
 use Rattle.content_filters.proofs.table.Filters.has.Goals as goal
 
 pub returns : goal.returns
-returns c condition count fs keeps =
-    let name = c.args.filter.now in
-    c.is_some.ensures ∙ ap is_some (c.place_of.ensures ∙ keeps.ages name) ∙ aged fs name
+returns c h keeps = c.has_filter.ensures (condition h) (condition_count h) (filters h) keeps

@@ -1,5 +1,5 @@
 use Rattle.std.proofs.Common.{◌≡◌, List, ap, subst, sym, ◌∙◌}
-use Rattle.news_types.specs.Items as items
+use Rattle.news_types.specs.Publications as published
 use Rattle.desk_rules.specs.declared.seats.Seat.{Seat}
 use Rattle.desk_rules.specs.Spots.{numbered}
 use Rattle.desk_rules.specs.Asked.{IsHeldAs}
@@ -10,6 +10,6 @@ pub returns-clause-held : goal.returns-clause-held
 returns-clause-held c h keeps =
     let t = c.args.self.now in
     let i = c.args.item in
-    let it = items.item h i in
+    let it = published.item h i in
     let is : c.seat_of.result ≡ numbered t.seats.items i = c.seat_of.ensures ∙ ap (λ (seats : List Seat). numbered seats i) c.deref.ensures.value in
     subst (λ seat. IsHeldAs seat it) (sym is) (held_found t.places.list.items (numbered t.seats.items i) it (item_found t h i keeps))

@@ -2,6 +2,7 @@ use Rattle.std.proofs.Common.{arith, sym, ◌∙◌, refl}
 use Rattle.news_types.proofs.Members.{same_is}
 use Rattle.byte_formats.proofs.Laws.{bytes_from}
 use Rattle.feed_receiver.proofs.Numbered as numbered
+use Rattle.feed_receiver.proofs.Reactions.{of_another, of_known, of_ahead}
 use Rattle.feed_receiver.proofs.receiver.Receiver.judge.Goals as goal
 
 pub overflow_sub-result : goal.overflow_sub-result
@@ -14,15 +15,14 @@ pub returns-then-ne-clause-refused : goal.returns-then-ne-clause-refused
 returns-then-ne-clause-refused g c = (
   _,
   numbered.is_frame c.args.frame.now (bytes_from c.args.frame.now (λ i. omega (arith, c.type_inv.frame i))) _ c.in-Ok.ensures.frame,
-  numbered.not_same c.in-Ok.read.to c.args.self.now.name (numbered.not_true _ (sym c.ne.ensures ∙ c.if-ne.true)),
+  of_another c.args.self.now.name c.args.self.now.count (record { to = c.in-Ok.read.to; k = c.in-Ok.read.k; payload = c.in-Ok.read.payload.now }) (numbered.not_same c.in-Ok.read.to c.args.self.now.name (numbered.not_true _ (sym c.ne.ensures ∙ c.if-ne.true))),
 )
 
 pub returns-then-read-count-clause-refused : goal.returns-then-read-count-clause-refused
 returns-then-read-count-clause-refused g c = (
   _,
   numbered.is_frame c.args.frame.now (bytes_from c.args.frame.now (λ i. omega (arith, c.type_inv.frame i))) _ c.in-Ok.ensures.frame,
-  same_is c.in-Ok.read.to c.args.self.now.name (numbered.not_false _ (sym c.ne.ensures ∙ c.if-ne.false)),
-  c.if-read-count.true,
+  of_known c.args.self.now.name c.args.self.now.count (record { to = c.in-Ok.read.to; k = c.in-Ok.read.k; payload = c.in-Ok.read.payload.now }) (same_is c.in-Ok.read.to c.args.self.now.name (numbered.not_false _ (sym c.ne.ensures ∙ c.if-ne.false))) c.if-read-count.true,
   refl,
 )
 
@@ -30,8 +30,7 @@ pub returns-then-read-count-2-clause-refused : goal.returns-then-read-count-2-cl
 returns-then-read-count-2-clause-refused g c = (
   _,
   numbered.is_frame c.args.frame.now (bytes_from c.args.frame.now (λ i. omega (arith, c.type_inv.frame i))) _ c.in-Ok.ensures.frame,
-  same_is c.in-Ok.read.to c.args.self.now.name (numbered.not_false _ (sym c.ne.ensures ∙ c.if-ne.false)),
-  omega arith,
+  of_ahead c.args.self.now.name c.args.self.now.count (record { to = c.in-Ok.read.to; k = c.in-Ok.read.k; payload = c.in-Ok.read.payload.now }) (same_is c.in-Ok.read.to c.args.self.now.name (numbered.not_false _ (sym c.ne.ensures ∙ c.if-ne.false))) (omega arith),
   refl,
 )
 

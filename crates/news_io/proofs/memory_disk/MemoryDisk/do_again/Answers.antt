@@ -1,7 +1,4 @@
-use Rattle.std.proofs.Common.{◌≡◌, ◌≤◌, ℕ, List, length, ap, sym, subst}
-use Rattle.news_io.specs.Disk.{Torn}
-use Rattle.news_io.specs.Replay.{StepsTo}
-use Rattle.news_io.specs.declared.memory_disk.Event.{Event}
+use Rattle.std.proofs.Common.{◌≤◌, ℕ, List, length, sym, subst}
 use Rattle.news_io.proofs.Over.{torn_fewer}
 use Rattle.news_io.proofs.memory_disk.MemoryDisk.do_again.Goals as goal
 

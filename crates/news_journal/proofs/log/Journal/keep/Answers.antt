@@ -2,10 +2,9 @@ use Rattle.std.proofs.lemmas.Result.{err_from_is_err_and}
 use Rattle.std.proofs.Common.{◌≡◌, inl, inr, ⊎_elim, refl, ap, subst, ◌∙◌, arith, ◌+◌, List, ℕ, length}
 use Rattle.news_io.specs.Disk.{Holds}
 use Rattle.news_io.specs.Keeper.{payload_of}
-use Rattle.news_journal.specs.Log.{header_bytes}
 use Rattle.news_journal.specs.Read.{AllFit-push, length-pushed}
 use Rattle.news_journal.proofs.Steps.{stage_shut, staged, stage_opens, gate_ajar, gate_open, gate_opens, ajar_long, shut_long, same_doubt, on_err, length-framed}
-use Rattle.news_journal.proofs.Time.{lifted, elapses_then}
+use Rattle.news_journal.proofs.Time.{elapses_weaker, elapses_then}
 use Rattle.news_journal.proofs.log.Journal.keep.Goals as goal
 
 -- the record could not be written behind the gate
@@ -23,7 +22,7 @@ returns-in_err-write_through-clause-logs_err g c = λ ps logs.
 
 pub returns-in_err-write_through-clause-crash_err : goal.returns-in_err-write_through-clause-crash_err
 returns-in_err-write_through-clause-crash_err g c = λ ps logs.
-    on_err _ _ (lifted g.D.Disk.left_since (header_bytes c.args.self.now.header) _ _ _ _ _ _ (c.write_through.ensures.time logs.told)
+    on_err _ _ (elapses_weaker _ _ _ _ _ _ (c.write_through.ensures.time logs.told)
     (λ f step. inl (stage_opens _ ps _ _ _ _ logs.gate logs.small logs.fit (logs.shut c.requires.shut) f step)))
 
 -- the gate could not be opened
@@ -33,7 +32,7 @@ returns-in_err-write_through-2-clause-logs_err g c = λ ps logs.
     let long = shut_long _ _ _ shut in
     let p = payload_of c.args.framed.now in
     let sizes : length c.args.framed.now ≡ 5 + length p = ap length c.requires.framed.is ∙ length-framed p in
-    let holds = subst (λ (f : List ℕ). Holds (g.D.Disk.seen c.args.self.now.disk) (c.args.self.now.gate + 1) f (g.D.Disk.seen c.write_through.new.disk)) c.requires.framed.is (c.in_ok-write_through.ensures.written logs.told (omega (arith, logs.gate, long))) in
+    let holds = subst (λ (f : List ℕ). Holds (g.D.Disk.disk.seen c.args.self.now.disk) (c.args.self.now.gate + 1) f (g.D.Disk.disk.seen c.write_through.new.disk)) c.requires.framed.is (c.in_ok-write_through.ensures.written logs.told (omega (arith, logs.gate, long))) in
     let behind_gate = staged _ _ _ _ _ _ logs.gate p c.requires.framed.fits (omega (arith, logs.gate, sizes, c.requires.room)) shut holds (c.in_ok-write_through.ensures.durable logs.told) in
     let still = gate_ajar _ _ _ _ _ _ logs.gate p behind_gate c.write_through-2.ensures.torn (c.write_through-2.ensures.crash (c.write_through.ensures.told logs.told)) in
     let e = err_from_is_err_and c.from_residual-in_err-write_through-2.result c.from_residual-in_err-write_through-2.ensures.1 in
@@ -52,7 +51,7 @@ returns-in_err-write_through-2-clause-doubts g c = λ ps logs.
     let long = shut_long _ _ _ shut in
     let p = payload_of c.args.framed.now in
     let sizes : length c.args.framed.now ≡ 5 + length p = ap length c.requires.framed.is ∙ length-framed p in
-    let holds = subst (λ (f : List ℕ). Holds (g.D.Disk.seen c.args.self.now.disk) (c.args.self.now.gate + 1) f (g.D.Disk.seen c.write_through.new.disk)) c.requires.framed.is (c.in_ok-write_through.ensures.written logs.told (omega (arith, logs.gate, long))) in
+    let holds = subst (λ (f : List ℕ). Holds (g.D.Disk.disk.seen c.args.self.now.disk) (c.args.self.now.gate + 1) f (g.D.Disk.disk.seen c.write_through.new.disk)) c.requires.framed.is (c.in_ok-write_through.ensures.written logs.told (omega (arith, logs.gate, long))) in
     let behind_gate = staged _ _ _ _ _ _ logs.gate p c.requires.framed.fits (omega (arith, logs.gate, sizes, c.requires.room)) shut holds (c.in_ok-write_through.ensures.durable logs.told) in
     let still = gate_ajar _ _ _ _ _ _ logs.gate p behind_gate c.write_through-2.ensures.torn (c.write_through-2.ensures.crash (c.write_through.ensures.told logs.told)) in
     let e = err_from_is_err_and c.from_residual-in_err-write_through-2.result c.from_residual-in_err-write_through-2.ensures.1 in
@@ -64,13 +63,13 @@ returns-in_err-write_through-2-clause-crash_err g c = λ ps logs.
     let long = shut_long _ _ _ shut in
     let p = payload_of c.args.framed.now in
     let sizes : length c.args.framed.now ≡ 5 + length p = ap length c.requires.framed.is ∙ length-framed p in
-    let holds = subst (λ (f : List ℕ). Holds (g.D.Disk.seen c.args.self.now.disk) (c.args.self.now.gate + 1) f (g.D.Disk.seen c.write_through.new.disk)) c.requires.framed.is (c.in_ok-write_through.ensures.written logs.told (omega (arith, logs.gate, long))) in
+    let holds = subst (λ (f : List ℕ). Holds (g.D.Disk.disk.seen c.args.self.now.disk) (c.args.self.now.gate + 1) f (g.D.Disk.disk.seen c.write_through.new.disk)) c.requires.framed.is (c.in_ok-write_through.ensures.written logs.told (omega (arith, logs.gate, long))) in
     let behind_gate = staged _ _ _ _ _ _ logs.gate p c.requires.framed.fits (omega (arith, logs.gate, sizes, c.requires.room)) shut holds (c.in_ok-write_through.ensures.durable logs.told) in
     let still = gate_ajar _ _ _ _ _ _ logs.gate p behind_gate c.write_through-2.ensures.torn (c.write_through-2.ensures.crash (c.write_through.ensures.told logs.told)) in
     on_err _ _ (elapses_then _ _ _ _ _ _ _
-    (lifted g.D.Disk.left_since (header_bytes c.args.self.now.header) _ _ _ _ _ _ (c.write_through.ensures.time logs.told)
+    (elapses_weaker _ _ _ _ _ _ (c.write_through.ensures.time logs.told)
     (λ f step. inl (stage_opens _ ps _ _ _ _ logs.gate logs.small logs.fit shut f step)))
-    (lifted g.D.Disk.left_since (header_bytes c.args.self.now.header) _ _ _ _ _ _ (c.write_through-2.ensures.time (c.write_through.ensures.told logs.told))
+    (elapses_weaker _ _ _ _ _ _ (c.write_through-2.ensures.time (c.write_through.ensures.told logs.told))
     (λ f step. ⊎_elim (λ same. inl same) (λ more. inr (p, record { is_ajar = refl; behind_gate = still }, more)) (gate_opens _ ps p _ _ _ logs.gate logs.fit behind_gate f step))))
 
 -- the record is kept
@@ -80,7 +79,7 @@ returns-clause-logs g c = λ ps logs.
     let long = shut_long _ _ _ shut in
     let p = payload_of c.args.framed.now in
     let sizes : length c.args.framed.now ≡ 5 + length p = ap length c.requires.framed.is ∙ length-framed p in
-    let holds = subst (λ (f : List ℕ). Holds (g.D.Disk.seen c.args.self.now.disk) (c.args.self.now.gate + 1) f (g.D.Disk.seen c.write_through.new.disk)) c.requires.framed.is (c.in_ok-write_through.ensures.written logs.told (omega (arith, logs.gate, long))) in
+    let holds = subst (λ (f : List ℕ). Holds (g.D.Disk.disk.seen c.args.self.now.disk) (c.args.self.now.gate + 1) f (g.D.Disk.disk.seen c.write_through.new.disk)) c.requires.framed.is (c.in_ok-write_through.ensures.written logs.told (omega (arith, logs.gate, long))) in
     let behind_gate = staged _ _ _ _ _ _ logs.gate p c.requires.framed.fits (omega (arith, logs.gate, sizes, c.requires.room)) shut holds (c.in_ok-write_through.ensures.durable logs.told) in
     let told = c.write_through.ensures.told logs.told in
     let long_now = ajar_long _ _ _ _ behind_gate in
@@ -88,9 +87,9 @@ returns-clause-logs g c = λ ps logs.
     record {
       told = c.write_through-2.ensures.told told;
       fit = AllFit-push ps p logs.fit c.requires.framed.fits;
-      gate = omega (arith, logs.gate, sizes, length-pushed (header_bytes c.args.self.now.header) ps p);
+      gate = omega (arith, logs.gate, sizes, length-pushed c.args.self.now.head ps p);
       small = omega (arith, c.requires.room);
-      shut = λ is. gate_open (header_bytes c.args.self.now.header) ps p _ _ _ _ _ logs.gate behind_gate opens (c.in_ok-write_through-2.ensures.durable told);
+      shut = λ is. gate_open c.args.self.now.head ps p _ _ _ _ _ logs.gate behind_gate opens (c.in_ok-write_through-2.ensures.durable told);
       ajar = λ no. absurd (cc no);
     }
 
@@ -100,10 +99,10 @@ returns-clause-crash g c = λ ps logs.
     let long = shut_long _ _ _ shut in
     let p = payload_of c.args.framed.now in
     let sizes : length c.args.framed.now ≡ 5 + length p = ap length c.requires.framed.is ∙ length-framed p in
-    let holds = subst (λ (f : List ℕ). Holds (g.D.Disk.seen c.args.self.now.disk) (c.args.self.now.gate + 1) f (g.D.Disk.seen c.write_through.new.disk)) c.requires.framed.is (c.in_ok-write_through.ensures.written logs.told (omega (arith, logs.gate, long))) in
+    let holds = subst (λ (f : List ℕ). Holds (g.D.Disk.disk.seen c.args.self.now.disk) (c.args.self.now.gate + 1) f (g.D.Disk.disk.seen c.write_through.new.disk)) c.requires.framed.is (c.in_ok-write_through.ensures.written logs.told (omega (arith, logs.gate, long))) in
     let behind_gate = staged _ _ _ _ _ _ logs.gate p c.requires.framed.fits (omega (arith, logs.gate, sizes, c.requires.room)) shut holds (c.in_ok-write_through.ensures.durable logs.told) in
     elapses_then _ _ _ _ _ _ _
-    (lifted g.D.Disk.left_since (header_bytes c.args.self.now.header) _ _ _ _ _ _ (c.write_through.ensures.time logs.told)
+    (elapses_weaker _ _ _ _ _ _ (c.write_through.ensures.time logs.told)
     (λ f step. inl (stage_opens _ ps _ _ _ _ logs.gate logs.small logs.fit shut f step)))
-    (lifted g.D.Disk.left_since (header_bytes c.args.self.now.header) _ _ _ _ _ _ (c.write_through-2.ensures.time (c.write_through.ensures.told logs.told))
+    (elapses_weaker _ _ _ _ _ _ (c.write_through-2.ensures.time (c.write_through.ensures.told logs.told))
     (λ f step. gate_opens _ ps p _ _ _ logs.gate logs.fit behind_gate f step))

@@ -1,4 +1,4 @@
-use Rattle.std.proofs.Common.{◌∙◌, List, sym, subst, ap}
+use Rattle.std.proofs.Common.{◌∙◌, refl, List, sym, subst, ap}
 use Rattle.news_io.specs.declared.record.Record.{Record}
 use Rattle.news_journal.specs.Stands.{Logs}
 use Rattle.news_journal.specs.Opened.{payloads}
@@ -11,13 +11,13 @@ returns-in-Ok-clause-tells g c = λ told.
     let read = c.in-Ok.ensures in
     let still = read.still told in
     let j = c.at_gate.ensures in
-    let logs = opened_logs g.D.Disk.tells g.D.Disk.seen g.D.Disk.may_leave c.at_gate.result _ _ _ j.disk j.header j.gate j.ajar (g.D.Disk.seen c.args.disk) c.in-Ok.records.items (still.told told) (read.header told) (read.reads told) still.seen_same (read.durable told) read.small in
-    subst (Logs g.D.Disk.tells g.D.Disk.seen g.D.Disk.may_leave c.at_gate.result) (sym (list_is _ _ _ c.at_gate.result _ logs)) logs
+    let logs = opened_logs g.D.Disk.disk c.at_gate.result _ _ _ j.disk (j.head ∙ read.head told) j.gate j.ajar (g.D.Disk.disk.seen c.args.disk) c.in-Ok.log.records.items (still.told told) refl (read.reads told) still.seen_same (read.durable told) read.small in
+    subst (Logs g.D.Disk.disk c.at_gate.result) (sym (list_is _ c.at_gate.result _ logs)) logs
 
 pub returns-in-Ok-clause-list : goal.returns-in-Ok-clause-list
 returns-in-Ok-clause-list g c = λ told.
     let read = c.in-Ok.ensures in
     let still = read.still told in
     let j = c.at_gate.ensures in
-    let logs = opened_logs g.D.Disk.tells g.D.Disk.seen g.D.Disk.may_leave c.at_gate.result _ _ _ j.disk j.header j.gate j.ajar (g.D.Disk.seen c.args.disk) c.in-Ok.records.items (still.told told) (read.header told) (read.reads told) still.seen_same (read.durable told) read.small in
-    list_is _ _ _ c.at_gate.result _ logs ∙ ap (λ (rs : List Record). payloads rs) (sym c.of.ensures)
+    let logs = opened_logs g.D.Disk.disk c.at_gate.result _ _ _ j.disk (j.head ∙ read.head told) j.gate j.ajar (g.D.Disk.disk.seen c.args.disk) c.in-Ok.log.records.items (still.told told) refl (read.reads told) still.seen_same (read.durable told) read.small in
+    list_is _ c.at_gate.result _ logs ∙ ap (λ (rs : List Record). payloads rs) (sym c.of.ensures)

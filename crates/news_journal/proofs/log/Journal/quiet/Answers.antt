@@ -1,9 +1,7 @@
 use Rattle.std.proofs.Common.{inl, inr, ⊎_elim, sym, subst, arith}
-use Rattle.news_io.specs.Keeper.{Leaves}
-use Rattle.news_journal.specs.Log.{header_bytes}
 use Rattle.news_journal.specs.Stands.{Doubts}
 use Rattle.news_journal.proofs.Steps.{gate_ajar, gate_shut, gate_opens, ajar_long, same_doubt}
-use Rattle.news_journal.proofs.Time.{lifted}
+use Rattle.news_journal.proofs.Time.{elapses_weaker}
 use Rattle.news_journal.proofs.log.Journal.quiet.Goals as goal
 
 pub returns-in_err-write_through-clause-logs : goal.returns-in_err-write_through-clause-logs
@@ -23,12 +21,12 @@ pub returns-in_err-write_through-clause-doubts : goal.returns-in_err-write_throu
 returns-in_err-write_through-clause-doubts g c = λ ps logs x doubt.
     let a = logs.ajar c.if-self.true in
     let still = gate_ajar _ _ _ _ _ _ logs.gate a.0 a.1.behind_gate c.write_through.ensures.torn (c.write_through.ensures.crash logs.told) in
-    subst (Doubts g.D.Disk.tells g.D.Disk.seen g.D.Disk.may_leave c.args.self.now ps) (sym (same_doubt _ x a.0 _ _ doubt.behind_gate still)) a.1
+    subst (Doubts g.D.Disk.disk c.args.self.now ps) (sym (same_doubt _ x a.0 _ _ doubt.behind_gate still)) a.1
 
 pub returns-in_err-write_through-clause-crash : goal.returns-in_err-write_through-clause-crash
 returns-in_err-write_through-clause-crash g c = λ ps logs.
     let a = logs.ajar c.if-self.true in
-    lifted g.D.Disk.left_since (header_bytes c.args.self.now.header) _ _ _ _ _ (Leaves ps (Doubts g.D.Disk.tells g.D.Disk.seen g.D.Disk.may_leave c.args.self.now ps)) (c.write_through.ensures.time logs.told)
+    elapses_weaker _ _ _ _ _ _ (c.write_through.ensures.time logs.told)
     (λ f step. ⊎_elim (λ same. inl same) (λ more. inr (a.0, a.1, more)) (gate_opens _ ps a.0 _ _ _ logs.gate logs.fit a.1.behind_gate f step))
 
 pub returns-in_ok-write_through-clause-logs : goal.returns-in_ok-write_through-clause-logs
@@ -49,5 +47,5 @@ returns-in_ok-write_through-clause-logs g c = λ ps logs.
 pub returns-in_ok-write_through-clause-crash : goal.returns-in_ok-write_through-clause-crash
 returns-in_ok-write_through-clause-crash g c = λ ps logs.
     let a = logs.ajar c.if-self.true in
-    lifted g.D.Disk.left_since (header_bytes c.args.self.now.header) _ _ _ _ _ (Leaves ps (Doubts g.D.Disk.tells g.D.Disk.seen g.D.Disk.may_leave c.args.self.now ps)) (c.write_through.ensures.time logs.told)
+    elapses_weaker _ _ _ _ _ _ (c.write_through.ensures.time logs.told)
     (λ f step. ⊎_elim (λ same. inl same) (λ more. inr (a.0, a.1, more)) (gate_opens _ ps a.0 _ _ _ logs.gate logs.fit a.1.behind_gate f step))

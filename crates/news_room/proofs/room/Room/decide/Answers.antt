@@ -1,10 +1,10 @@
 use Rattle.std.proofs.Common.{[], refl}
-use Rattle.news_types.specs.Outcome.{Repeat, Denied}
+use Rattle.news_types.specs.Outcome.{Done, Repeat, Denied}
 use Rattle.newsroom.specs.declared.change.Prepared.TheVariants as prepared
 use Rattle.news_room.proofs.Rooms.{place_left}
 use Rattle.news_room.proofs.Steps.{none_kept}
-use Rattle.news_room.proofs.Appends.{still_stands}
-use Rattle.news_room.proofs.Decisions.{decides, decided_kept, decided_none, decided_as}
+use Rattle.news_room.proofs.Appends.{still_stands, after_none}
+use Rattle.news_room.proofs.Decisions.{decides, decided_kept, decided_as}
 use Rattle.news_room.proofs.room.Room.decide.Goals as goal
 
 pub prepare-requires-clause-stands : goal.prepare-requires-clause-stands
@@ -13,8 +13,8 @@ prepare-requires-clause-stands g c =
     let is = c.requires.stands.1.0 in
     (b.list, (is.machine_for, place_left _ _ is.few))
 
-pub prepare-requires-clause-request : goal.prepare-requires-clause-request
-prepare-requires-clause-request g c = c.requires.built
+pub prepare-requires-clause-given : goal.prepare-requires-clause-given
+prepare-requires-clause-given g c = c.requires.given
 
 pub keep-requires-clause-stands : goal.keep-requires-clause-stands
 keep-requires-clause-stands g c =
@@ -22,19 +22,16 @@ keep-requires-clause-stands g c =
     let is = c.requires.stands.1.0 in (
       b,
       (
-        still_stands g.K.Keeper.faults g.K.Keeper.used g.K.Keeper.tells g.K.Keeper.list g.K.Keeper.doubts g.K.Keeper.moment g.K.Keeper.left_since c.args.self.now _ b refl is refl (c.prepare.ensures.stays b.list is.machine_for),
+        still_stands g.K.Keeper.keeper c.args.self.now _ b refl is refl (c.prepare.ensures.stays b.list is.machine_for),
         c.in-Change.ensures.change b.list is.machine_for c.requires.stands.1.1,
       ),
     )
 
 pub keep-requires-clause-memory : goal.keep-requires-clause-memory
-keep-requires-clause-memory g c = c.in-Change.ensures.memory.0
+keep-requires-clause-memory g c = c.in-Change.ensures.memory
 
 pub keep-requires-clause-fits : goal.keep-requires-clause-fits
 keep-requires-clause-fits g c = c.requires.fits
-
-pub keep-requires-clause-entry : goal.keep-requires-clause-entry
-keep-requires-clause-entry g c = c.in-Change.ensures.memory.1
 
 pub returns-in-Change : goal.returns-in-Change
 returns-in-Change g c =
@@ -42,23 +39,29 @@ returns-in-Change g c =
     let e = c.args.entry.now in (
       r.0,
       λ b is le.
-          let behind = r.1 b (still_stands g.K.Keeper.faults g.K.Keeper.used g.K.Keeper.tells g.K.Keeper.list g.K.Keeper.doubts g.K.Keeper.moment g.K.Keeper.left_since c.args.self.now _ b refl is refl (c.prepare.ensures.stays b.list is.machine_for)) (c.in-Change.ensures.change b.list is.machine_for le) in
-          decided_kept g.K.Keeper.faults g.K.Keeper.used g.K.Keeper.tells g.K.Keeper.list g.K.Keeper.doubts g.K.Keeper.moment g.K.Keeper.left_since c.args.self.now _ b e r.0 c.keep.result
-          (decides b.list e.moment e.act (prepared.Change c.in-Change.change) (c.in-Change.ensures.outcome b.list is.machine_for)) behind.stands behind.step (λ t. let told = behind.told t in record { crash = told.crash; doubt = told.doubt }),
+          let a = r.1 b (still_stands g.K.Keeper.keeper c.args.self.now _ b refl is refl (c.prepare.ensures.stays b.list is.machine_for)) (c.in-Change.ensures.change b.list is.machine_for le) in
+          decided_kept g.K.Keeper.keeper c.args.self.now _ b e r.0 _ c.keep.result
+          (decides b.list e.moment e.act (prepared.Change c.in-Change.change) (c.in-Change.ensures.outcome b.list is.machine_for))
+          (record { stands = a.stands; did = a.did; told = λ t. let told = a.told t in record { crash = told.crash; doubt = told.doubt } }),
     )
 
 pub returns-in-Settled : goal.returns-in-Settled
 returns-in-Settled g c =
     let e = c.args.entry.now in
-    ([], λ b is le. absurd (decides b.list e.moment e.act (prepared.Settled c.in-Settled.reply) (c.in-Settled.ensures.outcome b.list is.machine_for)))
+    (
+      [],
+      λ b is le.
+          after_none g.K.Keeper.keeper c.args.self.now _ b _ _ refl is refl (c.prepare.ensures.stays b.list is.machine_for)
+          (decided_as g.K.Keeper.keeper c.args.self.now c.args.self.now b e (Done c.in-Settled.reply) refl (decides b.list e.moment e.act (prepared.Settled c.in-Settled.reply) (c.in-Settled.ensures.outcome b.list is.machine_for))),
+    )
 
 pub returns-in-Repeat : goal.returns-in-Repeat
 returns-in-Repeat g c =
     let e = c.args.entry.now in (
       [],
       λ b is le.
-          decided_none g.K.Keeper.faults g.K.Keeper.used g.K.Keeper.tells g.K.Keeper.list g.K.Keeper.doubts g.K.Keeper.moment g.K.Keeper.left_since c.args.self.now _ b e _ refl is refl (c.prepare.ensures.stays b.list is.machine_for)
-          (decided_as g.K.Keeper.faults g.K.Keeper.used g.K.Keeper.tells g.K.Keeper.list g.K.Keeper.doubts g.K.Keeper.moment g.K.Keeper.left_since c.args.self.now c.args.self.now b e (Repeat c.in-Repeat.reply) refl (decides b.list e.moment e.act (prepared.Repeat c.in-Repeat.reply) (c.in-Repeat.ensures.outcome b.list is.machine_for))) (λ x d. d),
+          after_none g.K.Keeper.keeper c.args.self.now _ b _ _ refl is refl (c.prepare.ensures.stays b.list is.machine_for)
+          (decided_as g.K.Keeper.keeper c.args.self.now c.args.self.now b e (Repeat c.in-Repeat.reply) refl (decides b.list e.moment e.act (prepared.Repeat c.in-Repeat.reply) (c.in-Repeat.ensures.outcome b.list is.machine_for))),
     )
 
 pub returns-in-Denied : goal.returns-in-Denied
@@ -66,11 +69,10 @@ returns-in-Denied g c =
     let e = c.args.entry.now in (
       [],
       λ b is le.
-          decided_none g.K.Keeper.faults g.K.Keeper.used g.K.Keeper.tells g.K.Keeper.list g.K.Keeper.doubts g.K.Keeper.moment g.K.Keeper.left_since c.args.self.now _ b e _ refl is refl (c.prepare.ensures.stays b.list is.machine_for)
-          (decided_as g.K.Keeper.faults g.K.Keeper.used g.K.Keeper.tells g.K.Keeper.list g.K.Keeper.doubts g.K.Keeper.moment g.K.Keeper.left_since c.args.self.now c.args.self.now b e (Denied c.in-Denied.denial) refl (decides b.list e.moment e.act (prepared.Denied c.in-Denied.denial) (c.in-Denied.ensures.outcome b.list is.machine_for))) (λ x d. d),
+          after_none g.K.Keeper.keeper c.args.self.now _ b _ _ refl is refl (c.prepare.ensures.stays b.list is.machine_for)
+          (decided_as g.K.Keeper.keeper c.args.self.now c.args.self.now b e (Denied c.in-Denied.denial) refl (decides b.list e.moment e.act (prepared.Denied c.in-Denied.denial) (c.in-Denied.ensures.outcome b.list is.machine_for))),
     )
 
 pub returns-in-Memory : goal.returns-in-Memory
 returns-in-Memory g c =
-    let e = c.args.entry.now in
-    ([], λ b is le. decided_none g.K.Keeper.faults g.K.Keeper.used g.K.Keeper.tells g.K.Keeper.list g.K.Keeper.doubts g.K.Keeper.moment g.K.Keeper.left_since c.args.self.now _ b e _ refl is refl (c.prepare.ensures.stays b.list is.machine_for) (none_kept _ refl refl) (λ x d. d))
+    ([], λ b is le. after_none g.K.Keeper.keeper c.args.self.now _ b _ _ refl is refl (c.prepare.ensures.stays b.list is.machine_for) (none_kept _ refl refl))

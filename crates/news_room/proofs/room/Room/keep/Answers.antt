@@ -1,11 +1,9 @@
 use Rattle.std.proofs.Common.{◌≡◌, [], ◌∷◌, sym, subst}
 use Rattle.news_types.specs.declared.entry.Entry.{Entry}
-use Rattle.news_types.specs.Legal.{IsLegal}
-use Rattle.news_types.specs.Outcome.{reply_to}
-use Rattle.newsroom.specs.Built.{IsBuilt}
 use Rattle.newsroom.specs.Changes.{HasMemory}
 use Rattle.newsroom.specs.Stands.{StandsFor}
-use Rattle.news_room.specs.Log.{IsKept}
+use Rattle.news_room.specs.Log.{IsStored}
+use Rattle.news_room.proofs.Legal.{legal_for}
 use Rattle.news_room.proofs.Rooms.{place_left}
 use Rattle.news_room.proofs.Appends.{kept_ok, not_kept}
 use Rattle.news_room.proofs.room.Room.keep.Goals as goal
@@ -17,7 +15,7 @@ pub commit-requires-clause-stands : goal.commit-requires-clause-stands
 commit-requires-clause-stands g c =
     let b = c.requires.stands.0 in
     let is = c.requires.stands.1.0 in
-    (b.list, (subst (λ m. StandsFor m b.list) (sym c.in-Ok.ensures.machine) is.machine_for, c.requires.stands.1.1, place_left _ _ is.few))
+    (b.list, c.args.entry.now, (subst (λ m. StandsFor m b.list) (sym c.in-Ok.ensures.machine) is.machine_for, c.requires.stands.1.1, place_left _ _ is.few))
 
 pub commit-requires-clause-memory : goal.commit-requires-clause-memory
 commit-requires-clause-memory g c = subst (λ m. HasMemory m c.args.change) (sym c.in-Ok.ensures.machine) c.requires.memory
@@ -29,14 +27,9 @@ returns-in-Ok g c =
       e ∷ [],
       λ b is for_it.
           let machine = subst (λ m. StandsFor m b.list) (sym c.in-Ok.ensures.machine) is.machine_for in
-          let kept : IsKept (e ∷ b.list) = record {
-            legal = subst (λ (x : Entry). IsLegal (x ∷ b.list)) c.requires.entry for_it.legal;
-            formed = (s.1.record_is.entry, is.kept.formed);
-            built = (is.kept.built, subst (λ (x : Entry). IsBuilt x.act) c.requires.entry for_it.built);
-          } in
-          kept_ok _ _ _ _ _ _ _ c.args.self.now _ b e s.0 _ s.1.record_is kept is c.in-Ok.ensures.store
-          (subst (λ (x : Entry). StandsFor c.commit.new.self (x ∷ b.list)) c.requires.entry (c.commit.ensures.stands b.list machine for_it))
-          (subst (λ (x : Entry). c.commit.result ≡ reply_to b.list x.moment x.act) c.requires.entry (c.commit.ensures.reply b.list machine for_it)) s.1.grown s.1.did,
+          let kept : IsStored (e ∷ b.list) = record { legal = legal_for c.args.change e b.list for_it; formed = (s.1.record_is.entry, is.kept.formed) } in
+          kept_ok g.K.Keeper.keeper c.args.self.now _ b e s.0 _ s.1.record_is kept is c.in-Ok.ensures.store
+          (c.commit.ensures.stands b.list e machine for_it) (c.commit.ensures.reply b.list e machine for_it) s.1.grown s.1.did,
     )
 
 pub returns-in-Err : goal.returns-in-Err
@@ -44,11 +37,7 @@ returns-in-Err g c =
     let e : Entry = c.args.entry.now in (
       [],
       λ b is for_it.
-          not_kept _ _ _ _ _ _ _ c.args.self.now _ b e c.in-Err.answered c.in-Err.ensures.step
-          (λ entry. record {
-            legal = subst (λ (x : Entry). IsLegal (x ∷ b.list)) c.requires.entry for_it.legal;
-            formed = (entry, is.kept.formed);
-            built = (is.kept.built, subst (λ (x : Entry). IsBuilt x.act) c.requires.entry for_it.built);
-          })
+          not_kept g.K.Keeper.keeper c.args.self.now _ b e c.in-Err.answered c.in-Err.ensures.step
+          (λ entry. record { legal = legal_for c.args.change e b.list for_it; formed = (entry, is.kept.formed) })
           is c.in-Err.ensures.store (subst (λ m. StandsFor m b.list) (sym c.in-Err.ensures.machine) is.machine_for),
     )

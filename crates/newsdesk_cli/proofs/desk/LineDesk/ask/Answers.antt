@@ -1,37 +1,54 @@
-use Rattle.std.proofs.Common.{Err, refl, sym, subst}
-use Rattle.line_run.specs.declared.answering.Stopped.TheVariants as stopped
-use Rattle.desk_lines.specs.Answers.{HasLine, answer_bytes}
-use Rattle.newsdesk_cli.specs.Lines.{no_frames}
-use Rattle.newsdesk_cli.specs.Texts.{IsText}
+use Rattle.std.proofs.Common.{refl}
+use Rattle.news_types.specs.Books.{onto}
+use Rattle.news_room.specs.Stands.{numbers}
 use Rattle.newsdesk_cli.specs.Desk.{book}
-use Rattle.newsdesk_cli.proofs.Desks.{question_step, text_counts, has_line}
+use Rattle.newsdesk_cli.proofs.Desks.{tick_given, ticked_step, question_failed, question_refused, text_counts}
 use Rattle.newsdesk_cli.proofs.desk.LineDesk.ask.Goals as goal
 
-pub ask-requires-clause-stands : goal.ask-requires-clause-stands
-ask-requires-clause-stands g c = (book c.requires.stands.0 c.requires.stands.1.0, c.requires.stands.1.1.room_stands)
-
-pub ask-requires-clause-built : goal.ask-requires-clause-built
-ask-requires-clause-built g c = c.requires.built
-
-pub question_answered-requires : goal.question_answered-requires
-question_answered-requires g c =
+pub told-requires-clause-stands : goal.told-requires-clause-stands
+told-requires-clause-stands g c =
     let s = c.requires.stands.0 in
-    let h = c.requires.stands.1.0 in
-    subst HasLine (sym (c.in-Ok.ensures (book s h) no_frames c.requires.stands.1.1.room_stands)) (has_line h c.args.query.now c.requires.built)
+    let b = book s c.requires.stands.1.0 in
+    (onto c.tick.ensures.0 b, (c.tick.ensures.1 b c.requires.stands.1.1.room_stands).0)
 
-pub returns-in-Ok-clause-step : goal.returns-in-Ok-clause-step
-returns-in-Ok-clause-step g c s h stands =
-    question_step g.K.Keeper.faults g.K.Keeper.used g.K.Keeper.tells g.K.Keeper.list g.K.Keeper.doubts g.K.Keeper.moment g.K.Keeper.left_since g.C.Clock.tells g.C.Clock.ahead s c.args.self.now _ h c.now-now.result
-    c.args.query.now c.question_answered.result refl stands (record { same_room = refl; same = refl; told = c.now-now.ensures.told; gave = c.now-now.ensures.given })
-    (subst (λ a. IsText (answer_bytes a) c.question_answered.result) (c.in-Ok.ensures (book s h) no_frames stands.room_stands) c.question_answered.ensures)
+pub returns-in-Kept-clause-step : goal.returns-in-Kept-clause-step
+returns-in-Kept-clause-step g c s h stands =
+    let r = c.tick.ensures in
+    let did = r.1 (book s h) stands.room_stands in
+    ticked_step g.K.Keeper.keeper g.C.Clock.clock s c.args.self.now _ h c.now-now.result c.args.query.now c.requires.asks r.0 c.tick.result c.told.result c.in-Kept.is stands did.0 did.1 did.2
+    (record { same_room = refl; same = refl; told = c.now-now.ensures.told; gave = c.now-now.ensures.given }) (c.told.ensures (onto r.0 (book s h)) did.0)
 
-pub returns-in-Ok-clause-count : goal.returns-in-Ok-clause-count
-returns-in-Ok-clause-count g c = text_counts _ _ _ c.question_answered.result refl c.question_answered.ensures
+pub returns-in-Kept-clause-count : goal.returns-in-Kept-clause-count
+returns-in-Kept-clause-count g c =
+    let s = c.requires.stands.0 in
+    let b = book s c.requires.stands.1.0 in
+    let r = c.tick.ensures in
+    let did = r.1 b c.requires.stands.1.1.room_stands in
+    let given = tick_given (numbers g.K.Keeper.keeper c.args.self.now.room.now c.tick.new.self) b c.now-now.result r.0 c.tick.result c.in-Kept.is did.1 in
+    text_counts _ _ _ c.told.result given.0.whole.calm (c.told.ensures (onto r.0 b) did.0)
 
-pub returns-in-Err-clause-step : goal.returns-in-Err-clause-step
-returns-in-Err-clause-step g c s h stands =
-    question_step g.K.Keeper.faults g.K.Keeper.used g.K.Keeper.tells g.K.Keeper.list g.K.Keeper.doubts g.K.Keeper.moment g.K.Keeper.left_since g.C.Clock.tells g.C.Clock.ahead s c.args.self.now _ h c.now-now.result
-    c.args.query.now (Err stopped.Memory) refl stands (record { same_room = refl; same = refl; told = c.now-now.ensures.told; gave = c.now-now.ensures.given }) refl
+pub returns-in-Fault-clause-step : goal.returns-in-Fault-clause-step
+returns-in-Fault-clause-step g c s h stands =
+    let r = rw c.in-Fault.is at c.tick.ensures in
+    let did = r.1 (book s h) stands.room_stands in
+    question_failed g.K.Keeper.keeper g.C.Clock.clock s c.args.self.now _ h c.now-now.result c.args.query.now c.requires.asks r.0
+    (record { stands = stands; room = did.0; told = did.2; ticked = record { same_room = refl; same = refl; told = c.now-now.ensures.told; gave = c.now-now.ensures.given } }) did.1
 
-pub returns-in-Err-clause-count : goal.returns-in-Err-clause-count
-returns-in-Err-clause-count g c = refl
+pub returns-in-Fault-clause-count : goal.returns-in-Fault-clause-count
+returns-in-Fault-clause-count g c =
+    let r = rw c.in-Fault.is at c.tick.ensures in
+    let did = r.1 (book c.requires.stands.0 c.requires.stands.1.0) c.requires.stands.1.1.room_stands in
+    did.1.rose
+
+pub returns-in-Full-clause-step : goal.returns-in-Full-clause-step
+returns-in-Full-clause-step g c s h stands =
+    let r = rw c.in-Full.is at c.tick.ensures in
+    let did = r.1 (book s h) stands.room_stands in
+    question_refused g.K.Keeper.keeper g.C.Clock.clock s c.args.self.now _ h c.now-now.result c.args.query.now c.requires.asks r.0 c.in-Full.size c.in-Full.length
+    (record { stands = stands; room = did.0; told = did.2; ticked = record { same_room = refl; same = refl; told = c.now-now.ensures.told; gave = c.now-now.ensures.given } }) did.1
+
+pub returns-in-Full-clause-count : goal.returns-in-Full-clause-count
+returns-in-Full-clause-count g c =
+    let r = rw c.in-Full.is at c.tick.ensures in
+    let did = r.1 (book c.requires.stands.0 c.requires.stands.1.0) c.requires.stands.1.1.room_stands in
+    did.1.calm

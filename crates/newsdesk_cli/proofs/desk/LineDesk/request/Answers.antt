@@ -1,4 +1,5 @@
 use Rattle.std.proofs.Common.{refl}
+use Rattle.news_types.specs.Outcome.{request}
 use Rattle.newsdesk_cli.specs.Desk.{book}
 use Rattle.newsdesk_cli.proofs.Desks.{request_step, request_counts}
 use Rattle.newsdesk_cli.proofs.desk.LineDesk.request.Goals as goal
@@ -8,9 +9,6 @@ request-answered-requires-clause-stands g c =
     let s = c.requires.stands.0 in
     (book s c.requires.stands.1.0, c.requires.stands.1.1.room_stands)
 
-pub request-answered-requires-clause-built : goal.request-answered-requires-clause-built
-request-answered-requires-clause-built g c = c.requires.built
-
 pub request-answered-requires-clause-fits : goal.request-answered-requires-clause-fits
 request-answered-requires-clause-fits g c = c.requires.fits
 
@@ -18,13 +16,14 @@ pub returns-clause-step : goal.returns-clause-step
 returns-clause-step g c s h stands =
     let r = c.request-answered.ensures in
     let did = r.1 (book s h) stands.room_stands in
-    request_step g.K.Keeper.faults g.K.Keeper.used g.K.Keeper.tells g.K.Keeper.list g.K.Keeper.doubts g.K.Keeper.moment g.K.Keeper.left_since g.C.Clock.tells g.C.Clock.ahead s c.args.self.now _ h c.now-now.result
-    c.args.caller c.args.number c.args.command r.0 c.request-answered.result c.request_answered.result
-    (record { stands = stands; room = did.0; step = did.1; told = did.2; clock = record { same_room = refl; same = refl; told = c.now-now.ensures.told; gave = c.now-now.ensures.given } }) c.request_answered.ensures
+    request_step g.K.Keeper.keeper g.C.Clock.clock s c.args.self.now _ h c.now-now.result
+    c.args.caller c.args.number c.args.command r.0 c.request-answered.result c.request_answered.result did.1
+    (record { stands = stands; room = did.0; told = did.2; ticked = record { same_room = refl; same = refl; told = c.now-now.ensures.told; gave = c.now-now.ensures.given } }) c.request_answered.ensures
 
 pub returns-clause-count : goal.returns-clause-count
 returns-clause-count g c =
     let r = c.request-answered.ensures in
     let s = c.requires.stands.0 in
-    let did = r.1 (book s c.requires.stands.1.0) c.requires.stands.1.1.room_stands in
-    request_counts _ (book s c.requires.stands.1.0) c.now-now.result c.args.caller c.args.number c.args.command r.0 c.request-answered.result c.request_answered.result did.1 c.request_answered.ensures
+    let h = c.requires.stands.1.0 in
+    let did = r.1 (book s h) c.requires.stands.1.1.room_stands in
+    request_counts _ r.0 c.request-answered.result (request h c.args.caller c.args.number c.args.command c.now-now.result) c.request_answered.result did.1 c.request_answered.ensures

@@ -1,16 +1,10 @@
-use Rattle.std.proofs.Common.{◌≡◌, ◌∙◌, ℕ, ap, sym, refl, arith, length}
-use Rattle.news_types.specs.History.{moment}
-use Rattle.news_types.specs.Items.{pubs}
-use Rattle.news_types.proofs.Limits.{pubs_limited}
-use Rattle.newsroom.proofs.Counts.{pubs_counted, checked}
+use Rattle.newsroom.proofs.Telling.{told_check}
 use Rattle.newsroom.proofs.newsroom.Newsroom.ask_check.Goals as goal
 
-pub overflow_cast-result : goal.overflow_cast-result
-overflow_cast-result c =
-    let h = c.requires.0 in
-    omega (arith, c.len.ensures, pubs_counted _ h c.requires.1.0, pubs_limited h c.requires.1.0.legal)
+pub publication_count-requires : goal.publication_count-requires
+publication_count-requires c =
+    let stands = c.requires.1.0 in
+    (c.requires.0, (stands.stories, stands.legal, c.requires.1.1))
 
 pub returns : goal.returns
-returns c h frame stands =
-    let counted : c.len.result ≡ length (pubs h) = omega (arith, c.len.ensures, pubs_counted _ h stands) in
-    checked _ _ _ h stands.entries stands.at counted
+returns c h frame stands = told_check h _ _ _ stands.entries stands.at (c.publication_count.ensures h stands.stories)

@@ -1,22 +1,17 @@
-use Rattle.std.proofs.Common.{sym, ap, ◌∙◌}
-use Rattle.news_types.specs.declared.command.Command.{Command}
-use Rattle.news_types.specs.Denial.{command_denial}
-use Rattle.newsroom.proofs.Denials.{stranger_denied, subscriber_denied, flash_denied}
+use Rattle.std.proofs.Common.{sym, ◌∙◌}
+use Rattle.desk_rules.specs.Asked.{caller_denial}
+use Rattle.newsroom.specs.Reasons.{rest_denial}
+use Rattle.newsroom.proofs.Reasons.{stop_here, go_on, whole}
 use Rattle.newsroom.proofs.newsroom.Newsroom.command_denied.Goals as goal
 
-pub returns-then-not-is_admin : goal.returns-then-not-is_admin
-returns-then-not-is_admin c h m stands = sym (stranger_denied h c.args.caller.now c.args.command.now m stands.built (sym c.is_admin.ensures ∙ c.if-not-is_admin.true))
+pub returns-in-Some : goal.returns-in-Some
+returns-in-Some c h stands =
+    stop_here (caller_denial h c.args.caller.now c.args.command.now) (rest_denial h c.args.caller.now c.args.command.now c.args.moment) c.in-Some.denial (sym (c.caller_denied.ensures h stands.rules) ∙ c.in-Some.is)
+    ∙ whole h c.args.caller.now c.args.command.now c.args.moment
 
-pub returns-in-AddSubscriber : goal.returns-in-AddSubscriber
-returns-in-AddSubscriber c h m stands =
-    let built = rw c.in-AddSubscriber.is at c.requires in
-    c.subscriber_denied.ensures h stands
-    ∙ sym (ap (λ (command : Command). command_denial h c.args.caller.now command m) c.in-AddSubscriber.is
-    ∙ subscriber_denied h c.args.caller.now c.in-AddSubscriber.subscriber c.in-AddSubscriber.format c.in-AddSubscriber.products m stands.built built (sym c.is_admin.ensures ∙ c.if-not-is_admin.false))
-
-pub returns-in-Flash : goal.returns-in-Flash
-returns-in-Flash c h m stands =
-    let built = rw c.in-Flash.is at c.requires in
-    c.flash_denied.ensures h stands
-    ∙ sym (ap (λ (command : Command). command_denial h c.args.caller.now command m) c.in-Flash.is
-    ∙ flash_denied h c.args.caller.now c.in-Flash.story c.in-Flash.targets m stands.built built (sym c.is_admin.ensures ∙ c.if-not-is_admin.false))
+pub returns : goal.returns
+returns c h stands =
+    let none = sym (c.caller_denied.ensures h stands.rules) ∙ c.in_default.is in
+    c.rest_denied.ensures h stands none
+    ∙ go_on (caller_denial h c.args.caller.now c.args.command.now) (rest_denial h c.args.caller.now c.args.command.now c.args.moment) none
+    ∙ whole h c.args.caller.now c.args.command.now c.args.moment

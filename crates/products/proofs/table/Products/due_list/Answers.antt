@@ -17,7 +17,7 @@ returns-in-First c =
     let targets = c.args.targets.now in
     rw c.in-First.is
     (if_ok_map c.permitted_names.result _ _
-    (λ names made h ps i keep earlier. are_due t h ps First i story targets (λ s. permitted h story targets s || false) names keep.table (λ s. or_false (permitted h story targets s)) (made h keep))
+    (λ names made h ps i release keep earlier. are_due t h ps First i story release targets (λ s. permitted h story targets s || false) names keep.table (λ s. or_false (permitted h story targets s)) (made h keep))
     c.permitted_names.ensures)
 
 pub returns-in-Correct : goal.returns-in-Correct
@@ -27,7 +27,7 @@ returns-in-Correct c =
     let targets = c.args.targets.now in
     rw c.in-Correct.is
     (if_ok_map c.permitted_names-in-Correct.result _ _
-    (λ names made h ps i keep earlier. are_due t h ps Correct i story targets (λ s. permitted h story targets s || is_in s c.args.earlier.now) names keep.table (λ s. ap (λ b. permitted h story targets s || b) (earlier s)) (made h keep))
+    (λ names made h ps i release keep earlier. are_due t h ps Correct i story release targets (λ s. permitted h story targets s || is_in s c.args.earlier.now) names keep.table (λ s. ap (λ b. permitted h story targets s || b) (earlier s)) (made h keep))
     c.permitted_names-in-Correct.ensures)
 
 pub returns-in-Kill : goal.returns-in-Kill
@@ -35,7 +35,7 @@ returns-in-Kill c =
     let t = c.args.self.now in
     rw c.in-Kill.is
     (if_ok_map c.earlier_names.result _ _
-    (λ names made h ps i keep earlier. are_due t h ps Kill i c.args.story.now c.args.targets.now (λ s. is_in s c.args.earlier.now) names keep.table earlier made)
+    (λ names made h ps i release keep earlier. are_due t h ps Kill i c.args.story.now release c.args.targets.now (λ s. is_in s c.args.earlier.now) names keep.table earlier made)
     c.earlier_names.ensures)
 
 pub returns-in-Recall : goal.returns-in-Recall
@@ -43,5 +43,5 @@ returns-in-Recall c =
     let t = c.args.self.now in
     rw c.in-Recall.is
     (if_ok_map c.earlier_names-in-Recall.result _ _
-    (λ names made h ps i keep earlier. are_due t h ps Recall i c.args.story.now c.args.targets.now (λ s. is_in s c.args.earlier.now) names keep.table earlier made)
+    (λ names made h ps i release keep earlier. are_due t h ps Recall i c.args.story.now release c.args.targets.now (λ s. is_in s c.args.earlier.now) names keep.table earlier made)
     c.earlier_names-in-Recall.ensures)

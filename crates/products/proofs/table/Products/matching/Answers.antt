@@ -1,7 +1,6 @@
 use Rattle.std.proofs.Common.{◌≡◌, ℕ, ◌<◌, Bool, List, [], ◌∷◌, ◌++◌, length, sym, ap, ◌∙◌, arith}
 use Rattle.news_types.specs.Names.{Bytes}
-use Rattle.news_types.specs.Conditions.{condition, condition_count}
-use Rattle.news_types.specs.Filters.{filters, matches}
+use Rattle.news_types.specs.Filters.{matches}
 use Rattle.products.proofs.Loops.{filter_with, filter_without}
 use Rattle.products.proofs.table.Products.matching.Goals as goal
 use Rattle.products.proofs.table.Products.matching.Goals.{then-matches_with+in_ok-push, else-matches_with}
@@ -9,7 +8,7 @@ use Rattle.products.proofs.table.Products.matching.Goals.{then-matches_with+in_o
 pub loop-name-preserved : goal.loop-name-preserved
 loop-name-preserved c h story judges =
     let test : Bytes → Bool = λ name. matches h name story in
-    let said : c.matches_with.result ≡ test c.name-item.result = c.matches_with.ensures (condition h) (condition_count h) (filters h) story judges.rules judges.said in
+    let said : c.matches_with.result ≡ test c.name-item.result = c.matches_with.ensures h story judges.rules judges.said in
     let before = c.loop-name.invariant h story judges in
     let xs : List Bytes = c.args.names.now in
     let i : ℕ = c.loop-name.name-index in

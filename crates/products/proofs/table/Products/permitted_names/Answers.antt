@@ -1,7 +1,5 @@
 use Rattle.std.proofs.Common.{◌≡◌, ℕ, ◌<◌, Bool, ◌||◌, List, [], ◌∷◌, ◌++◌, length, get_or, sym, subst, ap, ◌∙◌, arith}
 use Rattle.news_types.specs.Names.{Bytes, is_in}
-use Rattle.news_types.specs.Conditions.{condition, condition_count}
-use Rattle.news_types.specs.Filters.{filters}
 use Rattle.news_types.specs.Products as facts
 use Rattle.products.specs.Asked.{Judges, AreBlocking}
 use Rattle.products.proofs.Loops.{filter_with, filter_without}
@@ -13,7 +11,7 @@ loop-name-preserved c h keep =
     let story = c.args.story.now in
     let test : Bytes → Bool = λ s. facts.permitted h story c.args.targets.now s || is_in s c.args.earlier.now in
     let judges : Judges c.in_ok-verdicts.verdicts c.args.filters.now h story =
-    record { rules = keep.rules; said = c.in_ok-verdicts.ensures (condition h) (condition_count h) (filters h) keep.rules } in
+    record { rules = keep.rules; said = c.in_ok-verdicts.ensures h keep.rules } in
     let due : c.is_due.result ≡ test c.name-item.result = c.is_due.ensures h story keep.table judges (subst (λ names. AreBlocking names h story) (sym c.deref.ensures.value) (c.in_ok-blocking.ensures h story judges)) in
     let before = c.loop-name.invariant h keep in
     let xs : List Bytes = c.args.self.now.names.items in

@@ -11,7 +11,8 @@ returns-in-SetSubscriber-clause-step c h keeps allowed =
     let active = c.in-SetSubscriber.active in
     let products = c.in-SetSubscriber.products in
     let off = c.in-SetSubscriber.off in
+    let lag = c.in-SetSubscriber.lag in
     rw c.in-SetSubscriber.is
     (if_ok_map c.prepare_other.result _ _
-    (λ made is. subst (λ s. IsStep s (SetSubscriber name active products off) (product h) (subscriber h)) (sym is) (set_is_step c.args.self.now h keeps name active products off (rw c.in-SetSubscriber.is at allowed)))
+    (λ made is. subst (λ s. IsStep s (SetSubscriber name active products off lag) (product h) (subscriber h)) (sym is) (set_is_step c.args.self.now h keeps name active products off lag (rw c.in-SetSubscriber.is at allowed)))
     c.prepare_other.ensures.made)

@@ -43,8 +43,8 @@ returns c =
         feeds = rw feeds_are (all_insert (IsFeed ps m acked tries tried) q.feeds.items at c.new.result (is_first_feed ps m s c.new.result (keeps.others s new) c.new.ensures) keeps.feeds);
         others = λ t none. keeps.others t (none_of _ _ none).1;
         waits = keeps.waits;
-        releases = keeps.releases;
-        falls = keeps.falls;
+        next = keeps.next;
+        fair = keeps.fair;
         ordered = rw feeds_are (ordered_insert q.feeds.items q.turns at c.new.result c.new.ensures.turn (rw (c.new.ensures.name, q.named) (keeps.subscribed s ∙ new)) room keeps.ordered);
       };
     }

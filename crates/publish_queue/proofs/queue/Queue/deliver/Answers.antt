@@ -14,11 +14,11 @@ returns-clause-keeps c names ps m acked tries tried to acked_then tries_then tri
     record {
       at = keeps.at;
       subscribed = keeps.subscribed;
-      feeds = feeds_delivered ps m c.deref.result.now q.names.items q.feeds.items c.deliver_at.new.feeds.items c.args.at to c.args.delivery acked tries tried acked_then tries_then tried_then
-          found keeps.falls (c.deref.ensures.value ∙ keeps.releases) a t l c.deliver_at.ensures.sets keeps.feeds;
+      feeds = feeds_delivered ps m q.names.items q.feeds.items c.deliver_at.new.feeds.items c.args.at to c.args.delivery acked tries tried acked_then tries_then tried_then
+          found a t l c.deliver_at.ensures.sets keeps.feeds;
       others = λ s none. untouched_then ps acked tries tried acked_then tries_then tried_then to s c.args.delivery.acked c.args.delivery.tries c.args.delivery.tried (another to s names there none) a t l (keeps.others s none);
       waits = keeps.waits;
-      releases = keeps.releases;
-      falls = keeps.falls;
+      next = keeps.next;
+      fair = keeps.fair;
       ordered = c.deliver_at.ensures.ordered (rw c.args.self.now.named c.args.self.now.ascends) keeps.ordered;
     }

@@ -1,6 +1,7 @@
 use Rattle.std.proofs.Common.{◌≡◌, ◌+◌, drop, sym, ap, ◌∙◌}
 use Rattle.std.proofs.lemmas.List.{at_drop_more, at_drop_all}
-use Rattle.publish_queue.specs.Choice.{sooner, soonest, later_moment_of}
+use Rattle.publish_queue.specs.Choice.{soonest, later_moment_of}
+use Rattle.publish_queue.specs.Coming.{sooner}
 use Rattle.publish_queue.proofs.Choosing.{sooner_assoc, sooner_none}
 use Rattle.publish_queue.proofs.queue.Queue.next_moment.Goals as goal
 

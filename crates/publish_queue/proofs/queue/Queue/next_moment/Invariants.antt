@@ -1,8 +1,9 @@
 use Rattle.std.proofs.Common.{◌≡◌, ℕ, List, drop}
 use Rattle.news_types.specs.Names.{Bytes}
-use Rattle.news_types.specs.Publications.{Pub}
+use Rattle.news_types.specs.Due.{Pub}
 use Rattle.publish_queue.specs.Keeps.{Keeps}
-use Rattle.publish_queue.specs.Choice.{sooner, soonest, later_moment_of}
+use Rattle.publish_queue.specs.Choice.{soonest, later_moment_of}
+use Rattle.publish_queue.specs.Coming.{sooner}
 use Rattle.publish_queue.proofs.queue.Queue.next_moment.Given as goal
 
 -- with the moments of the rest it is that of all

@@ -1,4 +1,4 @@
-use Rattle.std.proofs.Common.{sym, ◌∙◌, arith}
+use Rattle.std.proofs.Common.{sym, ◌∙◌}
 use Rattle.publish_queue.specs.Many.{IsSame}
 use Rattle.publish_queue.specs.Keeps.{IsFeed}
 use Rattle.publish_queue.proofs.Many.{each_names}
@@ -13,8 +13,8 @@ returns-clause-keeps c names ps m acked tries tried keeps = record {
   feeds = feeds_go IsSame (IsFeed ps m acked tries tried) (IsFeed ps m acked tries tried) _ _ c.reserve_all.ensures.alike (λ f g is r. is_feed_same ps m f g is r) keeps.feeds;
   others = keeps.others;
   waits = c.reserve.ensures.releases ∙ keeps.waits;
-  releases = c.reserve-2.ensures.items ∙ keeps.releases;
-  falls = keeps.falls;
+  next = keeps.next;
+  fair = keeps.fair;
   ordered = ordered_each _ _ _ c.reserve_all.ensures.alike.long (λ k d lt. (c.reserve_all.ensures.alike.each k d lt).alike.delivery.name) (λ k d lt. (c.reserve_all.ensures.alike.each k d lt).turn) keeps.ordered;
 }
 
@@ -23,7 +23,6 @@ returns-clause-ok c =
     on_ok c.reserve_all.result (c.reserve_all.ensures.ok (rw c.deref.ensures.value c.args.self.now.ascends) (c.args.self.now.named ∙ sym c.deref.ensures.value)) (λ roomy. record {
       roomy = roomy;
       waiting = c.in_ok-reserve.ensures.ok;
-      releases = omega (arith, c.in_ok-reserve-2.ensures.ok);
     })
 
 pub invariant_of-self-2-clause-named : goal.invariant_of-self-2-clause-named

@@ -1,0 +1,21 @@
+//! What a line asks for.
+
+use news_types::{Command, Name, Query};
+
+/// What a line asks for.
+#[derive(Drop)]
+pub enum Asked {
+    /// A request: who makes it, its number, and the command.
+    Request {
+        caller: Name,
+        number: u64,
+        command: Command,
+    },
+    /// A question on the list as it is.
+    Query(Query),
+    /// A receipt: the subscriber has so many entries of its feed.
+    Receipt {
+        subscriber: Name,
+        n: u32,
+    },
+}

@@ -1,0 +1,142 @@
+//! Sessions at a desk, over stores in memory and at moments that the input names: prints the answers to the lines of a batch.
+//!
+//! - `= new` begins a new store.
+//! - `@ M` ends the batch before it; from here on the clock shows M, in seconds since 1970-01-01T00:00:00Z.
+//! - `# text` ends the batch before it, and is printed as it is.
+//! - Each other line is one of the batch, which is answered where it ends.
+//!
+//! Each batch opens the store anew. What a command says that ends with another status than 0 is printed as an answer is.
+#![tactic(auto)]
+
+use news_io::{MemoryClock, MemoryDisk, MemorySink, MemorySource, UnreachableLink};
+use news_types::{Memory, Text};
+use newsdesk_cli::run;
+use std::alloc::Global;
+use std::io::{self, ErrorKind, Write};
+use std::mem;
+
+const INIT: &[&str] = &["init", "s", "6ba7b810-9dad-11d1-80b4-00c04fd430c8"];
+
+const BATCH: &[&str] = &["batch", "s"];
+
+fn main(rt: HostRuntime) -> io::Result<()> {
+    let mut session = Session::new(rt.alloc());
+    for line in rt.lines(rt.alloc()) {
+        session.take_line(&rt, line?.as_str())?;
+    }
+    session.end_batch(&rt)
+}
+
+/// A store in memory, its clock, and the batch that is being read.
+#[derive(Drop)]
+struct Session {
+    alloc: Global,
+    log: MemoryDisk,
+    /// What the clock shows, in seconds since 1970-01-01T00:00:00Z.
+    moment: u64,
+    /// The lines of the batch, each with its line feed.
+    batch: Vec<u8>,
+}
+
+impl Session {
+    /// An empty disk, which is no store yet, at moment 0.
+    fn new(alloc: Global) -> Session {
+        Session {
+            alloc,
+            log: MemoryDisk::new(alloc),
+            moment: 0,
+            batch: Vec::new(alloc),
+        }
+    }
+
+    /// Does what a line of the input says. A moment that is no number is invalid input.
+    fn take_line<R: Print>(&mut self, rt: &R, line: &str) -> io::Result<()> {
+        match line.split_once(' ') {
+            Some(("#", _)) => {
+                self.end_batch(rt)?;
+                println!(rt; "{line}")
+            }
+            Some(("@", moment)) => {
+                self.end_batch(rt)?;
+                self.set_clock(moment)
+            }
+            Some(("=", "new")) => {
+                self.end_batch(rt)?;
+                self.begin_store(rt)
+            }
+            _ => self.add_line(line),
+        }
+    }
+
+    fn set_clock(&mut self, moment: &str) -> io::Result<()> {
+        let Ok(moment) = moment.parse() else {
+            return Err(io::Error::from(ErrorKind::InvalidInput));
+        };
+        self.moment = moment;
+        Ok(())
+    }
+
+    fn begin_store<R: Print>(&mut self, rt: &R) -> io::Result<()> {
+        self.log = MemoryDisk::new(self.alloc);
+        self.print_command(rt, INIT, Vec::new(self.alloc))
+    }
+
+    fn add_line(&mut self, line: &str) -> io::Result<()> {
+        self.batch.extend_from_slice(line.as_bytes())?;
+        self.batch.push(b'\n')?;
+        Ok(())
+    }
+
+    /// Answers the batch, if it has a line.
+    fn end_batch<R: Print>(&mut self, rt: &R) -> io::Result<()> {
+        let input = mem::replace(&mut self.batch, Vec::new(self.alloc));
+        if input.is_empty() {
+            return Ok(());
+        }
+        self.print_command(rt, BATCH, input)
+    }
+
+    /// Runs a command over this input, and prints what it writes.
+    fn print_command<R: Print>(
+        &mut self,
+        rt: &R,
+        words: &[&str],
+        input: Vec<u8>,
+    ) -> io::Result<()> {
+        let Ok(output) = self.run_command(words, input) else {
+            return Err(io::Error::from(ErrorKind::OutOfMemory));
+        };
+        io::writer(rt).write_all(output.as_bytes())
+    }
+
+    /// Runs a command over this input, and gives what it writes.
+    fn run_command(&mut self, words: &[&str], input: Vec<u8>) -> Result<MemorySink, Memory> {
+        let words = texts_of(self.alloc, words)?;
+        let mut input = MemorySource::new(input);
+        let mut output = MemorySink::new(self.alloc);
+        let mut clock = MemoryClock::new(vec![in self.alloc; self.moment]?);
+        let mut links: Vec<UnreachableLink> = Vec::new(self.alloc);
+        let log = mem::replace(&mut self.log, MemoryDisk::new(self.alloc));
+        let side = MemoryDisk::new(self.alloc);
+        let (_, log, _) = run(
+            self.alloc,
+            &words,
+            &mut input,
+            &mut output,
+            log,
+            side,
+            &mut clock,
+            &mut links,
+        );
+        self.log = log;
+        Ok(output)
+    }
+}
+
+fn texts_of(alloc: Global, words: &[&str]) -> Result<Vec<Text>, Memory> {
+    let mut texts = Vec::new(alloc);
+    for word in words {
+        texts.push(Text::copy_of(alloc, *word)?)?;
+    }
+    Ok(texts)
+}

@@ -1,0 +1,4 @@
+pub mod NameOrder
+pub mod SegmentLaws
+pub mod Loops
+pub mod Fitting

@@ -1,0 +1,96 @@
+//! Segments counted by hand, and bytes that are no segment with the place of their fault.
+
+ghost use Rattle.entry_segments.specs.Answers.{IsWhole};
+
+use crate::{Packed, Segment, pack, unpack};
+use entry_codec::CodecFault;
+use news_types::Memory;
+use std::alloc::Global;
+use std::test::Fail;
+
+/// A subscriber is added and a story flashed, both at 1000.
+const FIRST: &[u8] =
+    b"\0\0\0\0\0\0\0\0\0\0\0\x02\0\0\xe8\x07\x06\0\0\0\x1c\x05admin\0\0\0\0\0\0\0\x01\x0c\x05alpha\0\0\x01\x03all\0\x06\0\0\0\x3c\x05admin\0\0\0\0\0\0\0\x02\x12\0\x03\0\0\0\x04fire\0\0\0\x04Fire\0\0\0\0\0\0\0\x02en\0\0\0\0\0\0\0\x06Smoke.\0\0\0";
+
+/// These behind many others; then two attempts, a receipt, and at the end of time an advance and a halt.
+const SECOND: &[u8] =
+    b"\0\0\xff\xff\xff\xff\xff\xf0\0\0\0\x07\0\x02\x05alpha\x04beta\xe8\x07\x06\0\0\0\x1c\x05admin\0\0\0\0\0\0\0\x01\x0c\x05alpha\0\0\x01\x03all\0\x06\0\0\0\x3c\x05admin\0\0\0\0\0\0\0\x02\x12\0\x03\0\0\0\x04fire\0\0\0\x04Fire\0\0\0\0\0\0\0\x02en\0\0\0\0\0\0\0\x06Smoke.\0\0\0\0\x02\0\x01\x01\x05\x03\0\x01\x01\xc3\x01\x02\0\0\xac\x02\xcf\xf9\xd0\xff\xaf\x07\x01\0\x04";
+
+/// A story with a copyright comes in, behind two others.
+const CREDITED: &[u8] =
+    b"\0\0\0\0\0\0\0\x02\0\0\0\x01\0\0\xe8\x07\x07\0\0\0\x42\x03pap\0\0\0\x04bas1\0\0\0\0\0\0\x03\xe7\0\0\0\0\0\0\x07\xd0\x01\x03\x02\0\0\0\x01s\0\0\0\x01h\0\0\0\0\0\0\0\0\0\0\0\x02pl\0\0\0\x01b\0\0\0\0\x01X";
+
+/// Packs a segment's entries again.
+fn repack(alloc: Global, segment: &Segment) -> Result<Packed, Memory>
+    requires { IsWhole segment.now }
+{
+    pack(alloc, segment.base, segment.entries.as_slice())
+}
+
+/// What is unpacked is packed to the same bytes.
+#[test]
+fn packs_again(rt: HostRuntime) -> Result<(), Fail> {
+    let rows: [(&[u8], usize); 3] = [(FIRST, 2), (SECOND, 7), (CREDITED, 1)];
+    for (bytes, count) in rows {
+        match unpack(rt.alloc(), bytes) {
+            Ok(segment) => {
+                assert_eq!(rt; segment.entries.as_slice().len(), count);
+                let packed = repack(rt.alloc(), &segment).ok().ok_or("memory")?;
+                assert_eq!(rt; packed.taken, count);
+                assert_eq!(rt; packed.payload.as_slice(), bytes);
+            }
+            Err(_) => return Err(Fail::from("no segment")),
+        }
+    }
+    assert_eq!(rt; FIRST.len(), 115);
+    Ok(())
+}
+
+/// Each part tells its fault at the first byte with which it is known, counted here from the front.
+#[test]
+fn tells_faults(rt: HostRuntime) {
+    let rows: [(&[u8], u64); 13] = [
+        (b"", 0),
+        // the base is too great
+        (b"\0\0\xff\xff\xff\xff\xff\xff\0\0\0\x01", 7),
+        // the base and the count are too great together
+        (b"\0\0\xff\xff\xff\xff\xff\xfe\0\0\0\x02\0\0", 11),
+        // no entries
+        (b"\0\0\0\0\0\0\0\0\0\0\0\0\0\0", 11),
+        // names in another order
+        (
+            b"\0\0\0\0\0\0\0\0\0\0\0\x02\0\x02\x04beta\x05alpha\0\x02\0\0\0",
+            24,
+        ),
+        // a moment in more bytes than it needs
+        (b"\0\0\0\0\0\0\0\0\0\0\0\x01\0\0\x80\0\x01", 15),
+        // a tag past the last
+        (b"\0\0\0\0\0\0\0\0\0\0\0\x01\0\0\0\x08", 15),
+        // a story that comes in with a copyright, which is empty
+        (
+            b"\0\0\0\0\0\0\0\0\0\0\0\x01\0\0\0\x07\0\0\0\x41\x03pap\0\0\0\x04bas1\0\0\0\0\0\0\x03\xe7\0\0\0\0\0\0\x07\xd0\x01\x03\x02\0\0\0\x01s\0\0\0\x01h\0\0\0\0\0\0\0\0\0\0\0\x02pl\0\0\0\x01b\0\0\0\0\0",
+            84,
+        ),
+        // a name's place without a name
+        (b"\0\0\0\0\0\0\0\0\0\0\0\x01\0\0\0\x02\0\0\x01", 17),
+        // a name that no entry has
+        (b"\0\0\0\0\0\0\0\0\0\0\0\x01\0\x01\x05alpha\0\x01", 21),
+        // an entry that ends too soon for its length, and one that goes on past it
+        (
+            b"\0\0\0\0\0\0\0\0\0\0\0\x01\0\0\0\x06\0\0\0\x0c\x01a\0\0\0\0\0\0\0\x01\x20\0",
+            31,
+        ),
+        (
+            b"\0\0\0\0\0\0\0\0\0\0\0\x01\0\0\0\x06\0\0\0\x0a\x01a\0\0\0\0\0\0\0\x01\x20",
+            30,
+        ),
+        // a byte behind the last entry
+        (b"\0\0\0\0\0\0\0\0\0\0\0\x01\0\0\0\x01\0", 16),
+    ];
+    for (bytes, at) in rows {
+        match unpack(rt.alloc(), bytes) {
+            Ok(_) => assert!(rt; false, "a segment at {bytes:?}"),
+            Err(fault) => assert_eq!(rt; fault, CodecFault::At { at }, "at {bytes:?}"),
+        }
+    }
+}

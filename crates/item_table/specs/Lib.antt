@@ -1,0 +1,5 @@
+pub mod Identities
+pub mod Rows
+pub mod Asked
+pub mod Keeps
+pub mod Steps

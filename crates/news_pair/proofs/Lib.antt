@@ -1,0 +1,12 @@
+mod Journals
+mod Emptied
+mod Packed
+mod Pairing
+mod Rows
+mod Judging
+mod Sides
+mod Heads
+mod Stops
+mod WereRead
+mod Sizes
+mod Ordering

@@ -1,0 +1,32 @@
+use Rattle.std.proofs.Common.{◌≡◌, ◌≤◌, ◌-◌, arith, ◌∙◌, ℕ, List, Ok, Err, Some, map, length, refl, sym, ap, subst}
+use Rattle.std.proofs.lemmas.List.{length-map}
+use Rattle.news_types.specs.Names.{Bytes}
+use Rattle.byte_formats.specs.Gives.{all_of}
+use Rattle.byte_formats.proofs.Alls.{all_again}
+use Rattle.entry_codec.specs.Spelling.{entry_bytes}
+use Rattle.entry_segments.specs.Reading.{segment}
+use Rattle.entry_segments.specs.Answers.{IsWhole}
+use Rattle.entry_segments.proofs.SegmentLaws.{segment_sound}
+use Rattle.news_pair.specs.Segments.{spelled, segment_in}
+use Rattle.news_pair.proofs.Sizes.{segment_long}
+use Rattle.news_pair.proofs.segments.read_segment.Goals as goal
+
+pub returns-in-Ok-payloads_of-clause-found : goal.returns-in-Ok-payloads_of-clause-found
+unfolding segment_in
+returns-in-Ok-payloads_of-clause-found c =
+    let f = c.in-Ok.ensures.found in
+    let read : all_of segment c.args.payload.now ≡ Ok c.in-Ok.segment = ap (all_of segment) f.1 ∙ all_again segment IsWhole segment_sound c.in-Ok.segment f.0 in
+    let list = c.in-Ok-payloads_of.ensures ∙ ap (map entry_bytes) c.as_slice.ensures in
+    ap spelled read ∙ ap (λ (l : List Bytes). Some (c.in-Ok.segment.base, l)) (sym list)
+
+pub returns-in-Err-At-clause-fault : goal.returns-in-Err-At-clause-fault
+returns-in-Err-At-clause-fault c = λ at e.
+    let told = rw c.in-Err-At.field-0-is at c.in-Err-At.ensures in
+    let same : c.in-Err-At.at ≡ at = cc in
+    subst (λ (n : ℕ). (all_of segment c.args.payload.now ≡ Err (length c.args.payload.now - n)) × (n ≤ length c.args.payload.now)) same (told.place c.in-Err-At.at refl, (told.fault c.in-Err-At.at refl).within)
+
+pub returns-in-Ok-payloads_of-clause-few : goal.returns-in-Ok-payloads_of-clause-few
+returns-in-Ok-payloads_of-clause-few c =
+    let f = c.in-Ok.ensures.found in
+    let list = ap length (c.in-Ok-payloads_of.ensures ∙ ap (map entry_bytes) c.as_slice.ensures) in
+    omega (arith, list, length-map c.in-Ok.segment.entries entry_bytes, segment_long c.in-Ok.segment.base c.in-Ok.segment.entries, ap length f.1)

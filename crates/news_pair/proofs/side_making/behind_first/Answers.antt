@@ -1,0 +1,7 @@
+use Rattle.std.proofs.Common.{append_assoc}
+use Rattle.news_pair.specs.Pair.{side_head}
+use Rattle.news_pair.proofs.side_making.behind_first.Goals as goal
+
+pub returns : goal.returns
+unfolding side_head
+returns c = rw (c.copy_from_slice.ensures.after, c.copy_from_slice-2.ensures.after, c.store_bytes.ensures) (simp append_assoc)

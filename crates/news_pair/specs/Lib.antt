@@ -1,0 +1,11 @@
+pub mod Damage
+pub mod Faults
+pub mod Keeper
+pub mod Law
+pub mod Opened
+pub mod Packing
+pub mod Pair
+pub mod Segments
+pub mod Stands
+pub mod Steps
+pub mod Unpacking

@@ -1,0 +1,1 @@
+use Rattle.news_room.proofs.room.Room.release.Goals as goal

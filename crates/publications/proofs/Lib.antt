@@ -1,0 +1,4 @@
+pub mod Rows
+pub mod Firsts
+pub mod Following
+pub mod Known

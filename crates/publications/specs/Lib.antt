@@ -1,0 +1,4 @@
+pub mod Numbers
+pub mod Keeps
+pub mod Later
+pub mod Steps

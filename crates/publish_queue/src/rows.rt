@@ -1,0 +1,65 @@
+//! What changes the entries of a feed, and what is read of them.
+ghost use Rattle.std.specs.Prelude.{◌≡◌, ◌+◌, ◌≤◌, [], ◌∷◌, ◌++◌, OnOk, vec_len, vec_capacity, slice_get};
+ghost use Rattle.publish_queue.specs.Places.{HasPlaces, KeepsPlaces};
+
+use crate::row::Row;
+use crate::waiting::Release;
+use news_types::Moment;
+use std::alloc::{AllocError, Global};
+
+impl Row {
+    /// Without an entry.
+    pub fn new(alloc: Global) -> Row
+        ensures numbers { result.numbers.items ≡ [] }
+        ensures releases { result.releases.items ≡ [] }
+    {
+        Row {
+            numbers: Vec::new(alloc),
+            releases: Vec::new(alloc),
+        }
+    }
+
+    /// Takes the memory for so many more.
+    pub fn reserve(&mut self, count: usize) -> Result<(), AllocError>
+        ensures numbers { self.new.numbers.items ≡ self.old.numbers.items }
+        ensures releases { self.new.releases.items ≡ self.old.releases.items }
+        ensures places { KeepsPlaces self.old self.new }
+        ensures ok { OnOk result (HasPlaces count self.new) }
+    {
+        self.numbers.reserve(count)?;
+        self.releases.reserve(count)
+    }
+
+    /// Puts one more entry behind the others. It takes no memory.
+    pub fn push(&mut self, release: Release)
+        requires { HasPlaces 1 self.old }
+        ensures numbers { self.new.numbers.items ≡ self.old.numbers.items ++ release.number ∷ [] }
+        ensures releases { self.new.releases.items ≡ self.old.releases.items ++ release.moment ∷ [] }
+        ensures len { vec_len self.new.numbers ≡ vec_len self.old.numbers + 1 }
+        ensures capacity { (vec_capacity self.old.numbers ≤ vec_capacity self.new.numbers) × (vec_capacity self.old.releases ≤ vec_capacity self.new.releases) }
+    {
+        self.numbers.push_reserved(release.number);
+        self.releases.push_reserved(release.moment);
+    }
+
+    /// How many entries there are.
+    pub fn len(&self) -> usize
+        ensures { result ≡ vec_len self.now.numbers }
+    {
+        self.numbers.len()
+    }
+
+    /// The number of the publication at a place, from 0.
+    pub fn number_at(&self, index: usize) -> Option<u32>
+        ensures { result ≡ slice_get self.now.numbers.items index }
+    {
+        self.numbers.get(index).copied()
+    }
+
+    /// The release at a place, from 0.
+    pub fn release_at(&self, index: usize) -> Option<Moment>
+        ensures { result ≡ slice_get self.now.releases.items index }
+    {
+        self.releases.get(index).copied()
+    }
+}

@@ -1,0 +1,5 @@
+pub mod Reasons
+pub mod Absent
+pub mod SameSources
+pub mod Releases
+pub mod Routing

@@ -1,0 +1,36 @@
+use Rattle.std.proofs.Common.{sym, subst}
+use Rattle.story_tables.proofs.Carried.{alike}
+use Rattle.story_tables.specs.Feeds.{Adds, Resumes, Issues, Retracts, Takes, Stays}
+use Rattle.story_tables.proofs.feeds.go.Goals as goal
+
+pub returns-in-Subscriber : goal.returns-in-Subscriber
+returns-in-Subscriber c h g keeps is later at =
+    let does : Adds c.in-Subscriber.name h g = rw c.in-Subscriber.is at is in
+    c.advance.ensures.keeps _ _ _ _ _ _ (alike _ _ _ _ _ _ _ _ _ _ _ _ does.subscribed does.stands does.sent.receipts does.sent.attempts does.sent.last (c.add_subscriber.ensures.keeps _ _ _ _ _ _ keeps does.new)) later
+
+pub returns-in-Resume : goal.returns-in-Resume
+returns-in-Resume c h g keeps is later at =
+    let does : Resumes c.in-Resume.name h g = rw c.in-Resume.is at is in
+    c.advance-in-Resume.ensures.keeps _ _ _ _ _ _ (alike _ _ _ _ _ _ _ _ _ _ _ _ does.subscribed does.stands does.receipts does.attempts does.last (c.resume.ensures.keeps _ _ _ _ _ _ keeps does.there)) later
+
+pub returns-in-Publish : goal.returns-in-Publish
+returns-in-Publish c h g keeps is later at =
+    let does : Issues c.in-Publish.number c.in-Publish.release c.in-Publish.due.items h g = rw c.in-Publish.is at is in
+    c.publish.ensures h g keeps (subst (λ l. Issues c.in-Publish.number c.in-Publish.release l h g) (sym c.deref.ensures.value) does) later
+
+pub returns-in-TakeBack : goal.returns-in-TakeBack
+returns-in-TakeBack c h g keeps is later at =
+    let does : Retracts c.in-TakeBack.numbers.items c.in-TakeBack.number c.in-TakeBack.due.items h g = rw c.in-TakeBack.is at is in
+    c.take_back.ensures h g keeps
+    (subst (λ l. Retracts c.deref-in-TakeBack.result.now c.in-TakeBack.number l h g) (sym c.deref-in-TakeBack-2.ensures.value)
+    (subst (λ l. Retracts l c.in-TakeBack.number c.in-TakeBack.due.items h g) (sym c.deref-in-TakeBack.ensures.value) does)) later at
+
+pub returns-in-Withdraw : goal.returns-in-Withdraw
+returns-in-Withdraw c h g keeps is later at =
+    let does : Takes c.in-Withdraw.number h g = rw c.in-Withdraw.is at is in
+    c.advance-in-Withdraw.ensures.keeps _ _ _ _ _ _ (alike _ _ _ _ _ _ _ _ _ _ _ _ does.subscribed does.stands does.sent.receipts does.sent.attempts does.sent.last (c.withdraw.ensures.keeps _ _ _ _ _ _ keeps does.waits)) later
+
+pub returns-in-Nothing : goal.returns-in-Nothing
+returns-in-Nothing c h g keeps is later at =
+    let does : Stays h g = rw c.in-Nothing.is at is in
+    c.advance-in-Nothing.ensures.keeps _ _ _ _ _ _ (alike _ _ _ _ _ _ _ _ _ _ _ _ does.subscribed does.stands does.sent.receipts does.sent.attempts does.sent.last keeps) later

@@ -1,0 +1,8 @@
+use Rattle.story_tables.proofs.stories.Stories.receipt.Goals as goal
+
+pub returns : goal.returns
+returns c h keeps later raises there = record {
+  items = keeps.items;
+  publications = keeps.publications;
+  queue = c.advance.ensures.keeps _ _ _ _ _ _ (c.receipt.ensures.keeps _ _ _ _ _ _ keeps.queue there raises) later;
+}

@@ -1,0 +1,109 @@
+-- What an entry does to the feeds.
+use Rattle.std.specs.Prelude.{◌≡◌, ◌≤◌, ◌<◌, ◌==◌, not, ℕ, true, false, List, ◌∷◌, Option, Some, None, if◌then◌else◌}
+use Rattle.std.specs.List.{filter}
+use Rattle.news_types.specs.declared.query.Due.{Due}
+use Rattle.news_types.specs.Names.{Bytes, same, is_in}
+use Rattle.news_types.specs.Members.{Each}
+use Rattle.news_types.specs.declared.command.Command.{Command}
+use Rattle.news_types.specs.declared.command.Command.TheVariants as command
+use Rattle.news_types.specs.History.{History, moment}
+use Rattle.news_types.specs.Products.{subscribers}
+use Rattle.news_types.specs.Due.{Pub, release_to, is_due, taken_back}
+use Rattle.news_types.specs.Publications.{standing}
+use Rattle.news_types.specs.Delivery.{acked, tries, tried}
+use Rattle.publish_queue.specs.declared.queue.Queue.{Queue}
+use Rattle.publish_queue.specs.Keeps.{Keeps, HasRoom, HasSpare, IsFair}
+use Rattle.publish_queue.specs.Withdrawn.{AreOfItem}
+use Rattle.publish_queue.specs.Order.{Differ}
+use Rattle.publish_queue.specs.Many.{names_in}
+use Rattle.publications.specs.declared.table.FirstFacts.{FirstFacts}
+use Rattle.story_tables.specs.declared.feeds.FeedStep.{FeedStep}
+use Rattle.story_tables.specs.declared.feeds.FeedStep.TheVariants.{Subscriber, Resume, Publish, TakeBack, Withdraw, Nothing}
+
+-- the queue keeps the feeds of the list at a moment
+abbrev pub KeepsQueue : Queue → History → ℕ → Type 0
+KeepsQueue q h m = Keeps q (subscribers h) (standing h) m (acked h) (tries h) (tried h)
+
+-- what was sent and acknowledged stays, behind h as behind g
+pub record SameDelivery (h g : History) : Type 0 where
+  pub receipts : (s : Bytes) → acked g s ≡ acked h s
+  pub attempts : (s : Bytes) → tries g s ≡ tries h s
+  pub last : (s : Bytes) → tried g s ≡ tried h s
+
+pub record Adds (name : Bytes) (h g : History) : Type 0 where
+  pub subscribed : subscribers g ≡ name ∷ subscribers h
+  pub stands : standing g ≡ standing h
+  pub sent : SameDelivery h g
+  pub new : is_in name (subscribers h) ≡ false
+
+pub record Resumes (name : Bytes) (h g : History) : Type 0 where
+  pub subscribed : subscribers g ≡ subscribers h
+  pub stands : standing g ≡ standing h
+  pub receipts : (s : Bytes) → acked g s ≡ acked h s
+  pub attempts : (s : Bytes) → tries g s ≡ (if same name s then 0 else tries h s)
+  pub last : (s : Bytes) → tried g s ≡ tried h s
+  pub there : is_in name (subscribers h) ≡ true
+
+-- to whom it is due, and when it is released to each
+pub record Issues (number release : ℕ) (due : List Due) (h g : History) : Type 0 where
+  pub subscribed : subscribers g ≡ subscribers h
+  pub sent : SameDelivery h g
+  pub p : Pub
+  pub stands : standing g ≡ p ∷ standing h
+  pub is_number : p.number ≡ number
+  pub is_release : p.release ≡ release
+  pub is_due_to : (s : Bytes) → release_to s p.due ≡ release_to s due
+  pub later : moment h ≤ release
+  pub fair : IsFair p
+  pub known : (s : Bytes) → is_due s p ≡ true → is_in s (subscribers h) ≡ true
+
+-- what waits of an item is taken back at the moment of the entry, at which one more is due to these
+pub record Retracts (numbers : List ℕ) (number : ℕ) (due : List Due) (h g : History) : Type 0 where
+  pub subscribed : subscribers g ≡ subscribers h
+  pub sent : SameDelivery h g
+  pub p : Pub
+  pub stands : standing g ≡ p ∷ taken_back (moment g) p.item (standing h)
+  pub are : AreOfItem (moment g) p.item numbers (standing h)
+  pub is_number : p.number ≡ number
+  pub is_release : p.release ≡ moment g
+  pub is_due_to : (s : Bytes) → release_to s p.due ≡ release_to s due
+  pub fair : IsFair p
+  pub known : (s : Bytes) → is_due s p ≡ true → is_in s (subscribers h) ≡ true
+
+pub record Takes (number : ℕ) (h g : History) : Type 0 where
+  pub subscribed : subscribers g ≡ subscribers h
+  pub sent : SameDelivery h g
+  pub stands : standing g ≡ filter (λ (p : Pub). not (p.number == number)) (standing h)
+  pub waits : Each (λ (p : Pub). p.number ≡ number → moment h < p.release) (standing h)
+
+pub record Stays (h g : History) : Type 0 where
+  pub subscribed : subscribers g ≡ subscribers h
+  pub stands : standing g ≡ standing h
+  pub sent : SameDelivery h g
+
+-- the step leads from the feeds of h to those of g
+abbrev pub FeedsFor : FeedStep → History → History → Type 0
+FeedsFor (Subscriber name) h g = Adds name h g
+FeedsFor (Resume name) h g = Resumes name h g
+FeedsFor (Publish number release due) h g = Issues number release due.items h g
+FeedsFor (TakeBack numbers number due) h g = Retracts numbers.items number due.items h g
+FeedsFor (Withdraw number) h g = Takes number h g
+FeedsFor Nothing h g = Stays h g
+
+-- the queue has the memory for the step
+abbrev pub HasFeedRoom : Queue → FeedStep → Type 0
+HasFeedRoom q (Subscriber name) = HasSpare q
+HasFeedRoom q (Publish number release due) = HasRoom q (names_in due.items) × Differ (names_in due.items)
+HasFeedRoom q (TakeBack numbers number due) = HasRoom q (names_in due.items) × Differ (names_in due.items)
+HasFeedRoom q _ = Unit {0}
+
+-- what a command that publishes and withdraws nothing does to the feeds
+abbrev pub feeds_of : Command → FeedStep
+feeds_of (command.AddSubscriber subscriber format products lag) = Subscriber subscriber
+feeds_of (command.Resume subscriber) = Resume subscriber
+feeds_of _ = Nothing
+
+-- what the feeds lose with an item's first publication, if one stands
+abbrev pub withdrawal_of : Option FirstFacts → FeedStep
+withdrawal_of None = Nothing
+withdrawal_of (Some first) = Withdraw first.number

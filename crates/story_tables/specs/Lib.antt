@@ -1,0 +1,11 @@
+pub mod Sorts
+pub mod Feeds
+pub mod Keeps
+pub mod Parts
+pub mod Asked
+pub mod Delivering
+pub mod Publishing
+pub mod Pages
+pub mod Reports
+pub mod Ingests
+pub mod Issued

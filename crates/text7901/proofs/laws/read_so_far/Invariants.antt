@@ -1,0 +1,11 @@
+use Rattle.std.proofs.Common.{◌≡◌, ◌++◌, ◌+◌, ℕ, List, take, length, false}
+use Rattle.text7901.specs.Gives.{gives, stream}
+use Rattle.text7901.specs.Wire.{wire}
+use Rattle.text7901.proofs.laws.read_so_far.Given as goal
+
+abbrev pub invariant-loop-piece : goal.invariant-loop-piece
+invariant-loop-piece l = record {
+  open_yet : l.reader.ended ≡ false;
+  place : l.reader.at ≡ l.fn.reader.at + length (stream (take l.piece-index l.pieces));
+  members : (more : List ℕ) → l.out.items ++ gives l.reader more ≡ wire (stream (take l.piece-index l.pieces) ++ more);
+}
