@@ -47,8 +47,7 @@ returns-in-Change g c =
 
 pub returns-in-Settled : goal.returns-in-Settled
 returns-in-Settled g c =
-    let e = c.args.entry.now in
-    (
+    let e = c.args.entry.now in (
       [],
       λ b is le.
           after_none g.K.Keeper.keeper c.args.self.now _ b _ _ refl is refl (c.prepare.ensures.stays b.list is.machine_for)
