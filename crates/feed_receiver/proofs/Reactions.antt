@@ -1,6 +1,6 @@
 -- What the receiver's step makes of a frame, by what was asked of it.
-use Rattle.std.proofs.Common.{◌≡◌, ℕ, ◌+◌, ◌<◌, ◌≤◌, Bool, true, false, List, [], ◌∷◌, ◌++◌, length, refl, sym, ap, subst, ◌∙◌, arith, append-nil}
-use Rattle.std.specs.Prelude.{not, nat_le, nat_lt, if◌then◌else◌}
+use Rattle.std.proofs.Common.{◌≡◌, ℕ, ◌+◌, ◌<◌, ◌≤◌, true, false, List, [], ◌∷◌, ◌++◌, length, refl, sym, ap, subst, ◌∙◌, arith, append-nil}
+use Rattle.std.specs.Prelude.{nat_le, nat_lt}
 use Rattle.news_types.specs.Names.{Bytes, same}
 use Rattle.news_types.specs.Frames.{Frame}
 use Rattle.news_types.specs.Calls.{Fate, IsKept, IsFull, IsFailed, IsStarved}
@@ -13,7 +13,7 @@ use Rattle.feed_receiver.specs.declared.receiver.Receiver.{Receiver}
 use Rattle.feed_receiver.specs.Spelling.{frame_bytes}
 use Rattle.feed_receiver.specs.Feed.{IsNumber}
 use Rattle.feed_receiver.specs.Holds.{Received, onto, Holds}
-use Rattle.feed_receiver.specs.Takes.{AreFrame, IsRefused, IsStep, Reacts, fate_of, reaction_of, Carries}
+use Rattle.feed_receiver.specs.Takes.{AreFrame, IsRefused, IsStep}
 
 is_mine : (name : Bytes) (f : Frame) → f.to ≡ name → same name f.to ≡ true
 is_mine name f is = rw is (same_self name)

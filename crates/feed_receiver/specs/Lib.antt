@@ -1,5 +1,4 @@
 pub mod Spelling
-pub mod Fields
 pub mod Formats
 pub mod Reads
 pub mod Laws

@@ -5,7 +5,7 @@ use Rattle.news_types.specs.Frames.{Frame}
 use Rattle.news_io.specs.Faults.{Rose}
 use Rattle.byte_formats.specs.Faults.{IsFaultAt}
 use Rattle.feed_receiver.specs.declared.receiver.Taken.{Taken}
-use Rattle.feed_receiver.specs.declared.receiver.Taken.TheVariants.{BadFrame, NotMine, Known, Ahead, Accepted, Fault, Full, Memory}
+use Rattle.feed_receiver.specs.declared.receiver.Taken.TheVariants.{BadFrame, NotMine, Known, Ahead, Accepted, Fault, Full}
 use Rattle.feed_receiver.specs.Spelling.{frame_bytes, IsFrame}
 use Rattle.news_types.specs.Receiver as step
 use Rattle.news_types.specs.Calls.{Fate, IsKept, IsFull, IsFailed, IsStarved}

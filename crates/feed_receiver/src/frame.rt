@@ -5,12 +5,12 @@
 //! leading zeros; the frame's number is 1 to 4294967295, the length 0 to 4194240.
 
 ghost use Rattle.std.specs.Prelude.{◌≡◌, ℕ, Ok, Err, IfOk, IfErr};
-ghost use Rattle.byte_formats.specs.Gives.{all_of};
-ghost use Rattle.feed_receiver.specs.Fields.{Reads};
+ghost use Rattle.byte_formats.specs.Gives.{Fails, Gives, IsFault, all_of};
+ghost use Rattle.byte_formats.specs.declared.stop.Stopped.TheVariants.{Left};
 ghost use Rattle.feed_receiver.specs.Formats.{heading_at, read_frame_at, frame};
 ghost use Rattle.feed_receiver.specs.Reads.{IsFirst};
 
-use crate::fields::Fields;
+use byte_formats::{Input, Stopped};
 use news_types::Name;
 
 /// The most bytes of a frame's payload.
@@ -53,10 +53,10 @@ pub enum FirstFrame {
 pub fn first_frame(bytes: &[u8]) -> FirstFrame
     ensures { IsFirst bytes.now result }
 {
-    let mut fields = Fields::new(bytes);
-    match next_frame(&mut fields) {
+    let mut input = Input::new(bytes);
+    match front_frame(&mut input) {
         Ok(_) => FirstFrame::Whole {
-            size: bytes.len() - fields.left(),
+            size: bytes.len() - input.left(),
         },
         Err(0) => FirstFrame::Cut,
         Err(left) => FirstFrame::Bad {
@@ -71,9 +71,9 @@ pub fn whole_frame(bytes: &[u8]) -> Result<Frame<'_>, usize>
     ensures frame { IfOk result (λ f. all_of frame bytes.now ≡ Ok (record { to = f.to; k = f.k; payload = f.payload.now })) }
     ensures fault { IfErr result (λ left. all_of frame bytes.now ≡ Err left) }
 {
-    let mut fields = Fields::new(bytes);
-    match next_frame(&mut fields) {
-        Ok(frame) => match fields.left() {
+    let mut input = Input::new(bytes);
+    match front_frame(&mut input) {
+        Ok(frame) => match input.left() {
             0 => Ok(frame),
             left => Err(left),
         },
@@ -81,14 +81,37 @@ pub fn whole_frame(bytes: &[u8]) -> Result<Frame<'_>, usize>
     }
 }
 
-/// The frame at the front of what is still to be read.
-#[tactic(auto, unfolding(crate::specs::Formats::read_frame_at))]
-fn next_frame<'a>(fields: &mut Fields<'a>) -> Result<Frame<'a>, usize>
-    ensures frame { IfOk result (λ f. read_frame_at fields.old ≡ Ok (record { to = f.to; k = f.k; payload = f.payload.now }, fields.new)) }
-    ensures fault { IfErr result (λ left. read_frame_at fields.old ≡ Err left) }
+/// The frame at the front of what is still to be read, or else how many bytes are left from the fault on.
+fn front_frame<'a>(input: &mut Input<'a>) -> Result<Frame<'a>, usize>
+    ensures frame { IfOk result (λ f. read_frame_at input.old ≡ Ok (record { to = f.to; k = f.k; payload = f.payload.now }, input.new)) }
+    ensures fault { IfErr result (λ left. read_frame_at input.old ≡ Err left) }
 {
-    let heading = next_heading(fields)?;
-    let payload = fields.bytes(heading.length as usize)?;
+    match next_frame(input) {
+        Ok(frame) => Ok(frame),
+        Err(stopped) => Err(left_of(stopped)),
+    }
+}
+
+/// How many bytes are left from the fault on: what takes no memory stops at nothing else.
+fn left_of(stopped: Stopped) -> usize
+    requires { IsFault stopped }
+    ensures { stopped ≡ Left result }
+{
+    match stopped {
+        Stopped::Left(left) => left,
+        Stopped::Memory => unreachable!(),
+    }
+}
+
+/// The same, and where it stops.
+#[tactic(auto, unfolding(crate::specs::Formats::read_frame_at))]
+fn next_frame<'a>(input: &mut Input<'a>) -> Result<Frame<'a>, Stopped>
+    ensures frame { IfOk result (λ f. read_frame_at input.old ≡ Ok (record { to = f.to; k = f.k; payload = f.payload.now }, input.new)) }
+    ensures fault { IfErr result (λ stopped. Fails stopped (read_frame_at input.old)) }
+    ensures calm { IfErr result IsFault }
+{
+    let heading = next_heading(input)?;
+    let payload = input.bytes(heading.length as usize)?;
     Ok(Frame {
         to: heading.to,
         k: heading.k,
@@ -97,13 +120,14 @@ fn next_frame<'a>(fields: &mut Fields<'a>) -> Result<Frame<'a>, usize>
 }
 
 #[tactic(auto, unfolding(crate::specs::Formats::heading_at))]
-fn next_heading(fields: &mut Fields) -> Result<Heading, usize>
-    ensures { Reads result fields.new (heading_at fields.old) }
+fn next_heading(input: &mut Input) -> Result<Heading, Stopped>
+    ensures gives { Gives result input.new (heading_at input.old) }
+    ensures calm { IfErr result IsFault }
 {
-    fields.literal(b"FRAME ")?;
+    input.literal(b"FRAME ")?;
     Ok(Heading {
-        to: fields.word()?,
-        k: fields.decimal(b' ', 1, u32::MAX)?,
-        length: fields.decimal(b'\n', 0, LONGEST_PAYLOAD)?,
+        to: input.word()?,
+        k: input.decimal(b' ', 1, u32::MAX)?,
+        length: input.decimal(b'\n', 0, LONGEST_PAYLOAD)?,
     })
 }

@@ -2,7 +2,6 @@
 //! bytes, and the receiver.
 #![tactic(auto)]
 
-mod fields;
 mod frame;
 mod law;
 mod line;

@@ -1,16 +1,14 @@
 //! Receipts: the word `RECEIPT`, the subscriber and how many frames of its feed it holds, each behind
 //! a space, and a line feed.
 
-ghost use Rattle.std.specs.Prelude.{◌≡◌, ℕ, Some, IfSome};
+ghost use Rattle.std.specs.Prelude.{◌≡◌, ℕ, Some, IfSome, IfErr};
 ghost use Rattle.news_types.specs.Names.{Bytes};
-ghost use Rattle.byte_formats.specs.Gives.{all_of};
-ghost use Rattle.feed_receiver.specs.Fields.{Reads, ReadsAll};
+ghost use Rattle.byte_formats.specs.Gives.{Gives, GivesAll, IsFault, all_of};
 ghost use Rattle.feed_receiver.specs.Spelling.{receipt_bytes, IsReceipt};
 ghost use Rattle.feed_receiver.specs.Formats.{receipt_at, receipt, receipt_of};
 
-use crate::fields::Fields;
 use crate::line::Line;
-use byte_formats::SmallBytes;
+use byte_formats::{Input, SmallBytes, Stopped};
 use news_types::Name;
 
 /// The line that says that the subscriber holds so many frames. It takes no memory.
@@ -44,24 +42,26 @@ pub fn read_receipt(line: &[u8]) -> Option<(Name, u32)>
     }
 }
 
-/// The receipt that all of the bytes are, or else how many bytes are left from the fault on.
+/// The receipt that all of the bytes are.
 #[tactic(auto, unfolding(byte_formats::specs::Gives::all_of))]
-fn whole_receipt(line: &[u8]) -> Result<(Name, u32), usize>
-    ensures { ReadsAll result (all_of receipt line.now) }
+fn whole_receipt(line: &[u8]) -> Result<(Name, u32), Stopped>
+    ensures gives { GivesAll result (all_of receipt line.now) }
+    ensures calm { IfErr result IsFault }
 {
-    let mut fields = Fields::new(line);
-    let receipt = next_receipt(&mut fields)?;
-    let left = fields.left();
+    let mut input = Input::new(line);
+    let receipt = next_receipt(&mut input)?;
+    let left = input.left();
     if left != 0 {
-        return Err(left);
+        return Err(Stopped::Left(left));
     }
     Ok(receipt)
 }
 
 #[tactic(auto, unfolding(crate::specs::Formats::receipt_at))]
-fn next_receipt(fields: &mut Fields) -> Result<(Name, u32), usize>
-    ensures { Reads result fields.new (receipt_at fields.old) }
+fn next_receipt(input: &mut Input) -> Result<(Name, u32), Stopped>
+    ensures gives { Gives result input.new (receipt_at input.old) }
+    ensures calm { IfErr result IsFault }
 {
-    fields.literal(b"RECEIPT ")?;
-    Ok((fields.word()?, fields.decimal(b'\n', 0, u32::MAX)?))
+    input.literal(b"RECEIPT ")?;
+    Ok((input.word()?, input.decimal(b'\n', 0, u32::MAX)?))
 }

@@ -40,6 +40,7 @@ memory_disk = record {
 -- a keeper in memory
 abbrev pub memory_keeper : KeeperMeaning MemoryKeeper
 memory_keeper = record {
+  label = λ k. [];
   faults = λ k. k.script.faults;
   calls = λ k. k.script.calls;
   most_calls = λ k. 1;

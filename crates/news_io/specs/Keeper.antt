@@ -59,6 +59,8 @@ BeforeOrAfter list doubts list' doubts' opened = Leaves list doubts opened ⊎ L
 
 -- what a keeper means
 pub record KeeperMeaning (K : Type 0) : Type 1 where
+  -- whose list it is: the identifier of the store, where a store has the list
+  pub label : K → List ℕ
   -- how often its device has failed; a counter of 64 bits stays at its last value
   pub faults : K → ℕ
   -- how many device calls were made; it may count fewer, and never more

@@ -46,6 +46,7 @@ pub trait Keeper {
         ensures used_err { OnErr result (keeper.used self.new ≡ keeper.used self.old) }
         ensures count { AppendCounts (keeper.faults self.old) (keeper.faults self.new) result }
         ensures calls { AppendCalls (keeper.calls self.old) (keeper.calls self.new) (keeper.most_calls self.old) result }
+        ensures label { keeper.label self.new ≡ keeper.label self.old }
         ensures told { keeper.tells self.old → keeper.tells self.new }
         ensures kept { keeper.tells self.old → OnOk result (keeper.list self.new ≡ keeper.list self.old ++ payload_of framed.now ∷ []) }
         ensures same { keeper.tells self.old → OnErr result (keeper.list self.new ≡ keeper.list self.old) }

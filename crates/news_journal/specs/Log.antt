@@ -14,6 +14,10 @@ IsOfForm (Receiver name) = IsTrue (is_name name)
 unfoldable pub room_head : ℕ → List ℕ → Bytes → List ℕ
 room_head edition base store = codes "NEWSDESK" ++ edition ∷ 1 ∷ (base ++ (store ++ replicate 32 0))
 
+-- the store's identifier in a room's header
+unfoldable pub store_in : List ℕ → Bytes
+store_in head = take 16 (drop 16 head)
+
 -- the header of a receiver: NEWSDESK, the edition, the kind 2, zeros, and the name filled with zeros
 unfoldable pub receiver_head : ℕ → Bytes → List ℕ
 receiver_head edition name = codes "NEWSDESK" ++ edition ∷ 2 ∷ (replicate 22 0 ++ (name ++ replicate (32 - length name) 0))

@@ -1,13 +1,15 @@
 use Rattle.std.proofs.Common.{arith, sym, ◌∙◌}
 use Rattle.byte_formats.proofs.Laws.{ok_is, not_both, bytes_from}
-use Rattle.feed_receiver.proofs.ReceiptLines.{line_found, line_again}
+use Rattle.feed_receiver.proofs.ReceiptLines.{line_found, line_again, fails_at}
 use Rattle.feed_receiver.proofs.receipt.read_receipt.Goals as goal
 
 pub returns-in-Ok-clause-found : goal.returns-in-Ok-clause-found
-returns-in-Ok-clause-found c = line_found c.args.line.now _ (bytes_from c.args.line.now (λ i. omega (arith, c.type_inv.line i))) c.in-Ok.ensures
+returns-in-Ok-clause-found c = line_found c.args.line.now _ (bytes_from c.args.line.now (λ i. omega (arith, c.type_inv.line i))) c.in-Ok.ensures.gives
 
 pub returns-in-Ok-clause-only : goal.returns-in-Ok-clause-only
-returns-in-Ok-clause-only c = λ name n form is. let same = ok_is _ (name, n) (sym c.in-Ok.ensures ∙ line_again c.args.line.now name n form is) in cc (same)
+returns-in-Ok-clause-only c = λ name n form is. let same = ok_is _ (name, n) (sym c.in-Ok.ensures.gives ∙ line_again c.args.line.now name n form is) in cc (same)
 
 pub returns-in-Err-clause-only : goal.returns-in-Err-clause-only
-returns-in-Err-clause-only c = λ name n form is. not_both _ (name, n) _ (line_again c.args.line.now name n form is) c.in-Err.ensures
+returns-in-Err-clause-only c = λ name n form is.
+    let fault = fails_at c.in-Err.field-0 _ c.in-Err.ensures.calm c.in-Err.ensures.gives in
+    not_both _ (name, n) fault.0 (line_again c.args.line.now name n form is) fault.1
