@@ -10,3 +10,7 @@ mod Stops
 mod WereRead
 mod Sizes
 mod Ordering
+mod Chains
+mod Reread
+mod Filled
+mod PackLog

@@ -152,7 +152,7 @@ module _ {D : Type 0} (disk : DiskMeaning D) (log : Journal D) (side : D) (store
       nothing = list_is disk j [] logs
 
   -- each outcome of the log opens to its records
-  log_opens : log.ajar ≡ false → (c : List ℕ) → disk.may_leave log.disk c → opened log.head c ≡ Some (list_of disk log)
+  pub log_opens : log.ajar ≡ false → (c : List ℕ) → disk.may_leave log.disk c → opened log.head c ≡ Some (list_of disk log)
   log_opens shut c left = elim (outcome_opens disk log (list_of disk log) pairs.log_is c (inr left)) [
     | inl is ↦ is
     | inr more ↦ absurd (cc (more.1.is_ajar, shut))

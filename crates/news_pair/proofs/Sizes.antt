@@ -1,6 +1,6 @@
 -- How many entries files of some size have.
-use Rattle.std.proofs.Common.{◌≡◌, ℕ, ◌-◌, ◌*◌, ◌≤◌, ◌<◌, ◌^◌, List, [], ◌∷◌, ◌++◌, length, drop, sym, subst, arith, length-append, length-drop}
-use Rattle.std.specs.Prelude.{All}
+use Rattle.std.proofs.Common.{◌≡◌, ℕ, ◌-◌, ◌*◌, ◌≤◌, ◌<◌, ◌^◌, List, [], ◌∷◌, ◌++◌, ◌+◌, length, drop, Option, Some, None, sym, subst, arith, length-append, length-drop}
+use Rattle.std.specs.Prelude.{All, IfSome}
 use Rattle.std.specs.Int.{w32, to_be_bytes}
 use Rattle.std.specs.List.{flat_map}
 use Rattle.std.proofs.lemmas.List.Elements.{All-append, All-drop}
@@ -15,6 +15,8 @@ use Rattle.entry_segments.specs.Segment.{names_of, packed_fields, packed, all_pa
 use Rattle.news_journal.specs.Log.{records}
 use Rattle.news_journal.specs.Read.{length-be}
 use Rattle.news_journal.specs.Opened.{payloads, AreFew}
+use Rattle.news_pair.specs.Opened.{segments_of, end_of}
+use Rattle.news_pair.specs.declared.side_reading.SideLog.{SideLog}
 use Rattle.news_pair.proofs.Rows.{length-payloads}
 
 -- each entry of a segment has its moment's varint and its tag
@@ -38,3 +40,9 @@ all_few side log skip all are few few_log at log_few = subst AreFew (sym are) (r
   count = omega (arith, few, few_log, records_long (payloads log), length-payloads log, length-append side (drop skip log), length-drop skip log);
   at = All-append (λ (r : Record). r.at < 2 ^ 30) side (drop skip log) at (All-drop (λ (r : Record). r.at < 2 ^ 30) skip log log_few.at);
 })
+
+-- the gate of a side stands behind its entries
+pub side_ends : (found : Option SideLog) → IfSome found (λ o. o.gate ≡ 64 + length (records (payloads o.records.items))) → IfSome found (λ o. o.gate < 2 ^ 30)
+    → (length (records (segments_of found)) ≤ end_of found) × (end_of found < 2 ^ 30)
+side_ends None place near = (omega arith, omega arith)
+side_ends (Some o) place near = (omega (arith, place), near)

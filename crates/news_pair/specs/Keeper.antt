@@ -10,6 +10,7 @@ use Rattle.news_pair.specs.declared.pair.Pair.{Pair}
 
 abbrev pub pair_of : {D : Type 0} → DiskMeaning D → KeeperMeaning (Pair D)
 pair_of disk = record {
+  label = λ p. p.store;
   faults = λ p. disk.faults p.log.disk + disk.faults p.side;
   calls = λ p. disk.calls p.log.disk + disk.calls p.side;
   most_calls = λ p. append_calls p.log.ajar;

@@ -1,8 +1,11 @@
 pub mod Damage
 pub mod Faults
+pub mod Filling
 pub mod Keeper
 pub mod Law
 pub mod Opened
+pub mod PackFaults
+pub mod Packed
 pub mod Packing
 pub mod Pair
 pub mod Segments

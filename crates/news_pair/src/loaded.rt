@@ -27,7 +27,8 @@ pub struct Loaded {
     pub gathered: Gathered,
     ghost room: { gate + 1 ≤ gathered.used },
     ghost size: { gathered.used < 2 ^ 62 },
-    ghost few: { gathered.packed < 2 ^ 30 },
+    ghost few: { gathered.packed ≤ gathered.end },
+    ghost near: { gathered.end < 2 ^ 30 },
     ghost small: { gate < 2 ^ 30 },
     ghost least: { 65 ≤ gathered.used },
 }

@@ -100,6 +100,7 @@ impl<D: Disk> Pair<D> {
             → IfOk result (λ o. Pairs D.disk o.pair (payloads o.records)) }
         ensures records { IfOk result (λ o. o.records ≡ loaded.gathered.records.items) }
         ensures header { IfOk result (λ o. o.header ≡ Room loaded.head.store) }
+        ensures label { IfOk result (λ o. o.header ≡ Room ((pair_of D.disk).label o.pair)) }
         ensures used { IfOk result (λ o. o.pair.used ≡ loaded.gathered.used) }
         ensures shut { IfOk result (λ o. o.pair.log.ajar ≡ false) }
         ensures side { IfOk result (λ o. o.pair.side ≡ side) }
@@ -141,7 +142,8 @@ impl<D: Disk> Pair<D> {
         ensures whole { D.disk.tells log → D.disk.tells side → OnOk result (pair_damage (D.disk.seen log) (D.disk.seen side) ≡ None) }
         ensures damage { D.disk.tells log → D.disk.tells side → IfErr result (λ e. IsPairDamage (pair_damage (D.disk.seen log) (D.disk.seen side)) e.2) }
         ensures few { IfOk result (λ o. AreFew o.records) }
-        // The keeper holds the records, and nothing is in doubt.
+        // The keeper holds the records of the store that the header names, and nothing is in doubt.
+        ensures label { IfOk result (λ o. o.header ≡ Room ((pair_of D.disk).label o.pair)) }
         ensures tells { D.disk.tells log → D.disk.tells side → IfOk result (λ o. (pair_of D.disk).tells o.pair) }
         ensures list { D.disk.tells log → D.disk.tells side → IfOk result (λ o. (pair_of D.disk).list o.pair ≡ payloads o.records) }
         ensures doubts { IfOk result (λ o. (x : List ℕ) → (pair_of D.disk).doubts o.pair x → ⊥) }

@@ -21,5 +21,6 @@ pub struct Pair<D> {
     ghost room: { log.gate + 1 ≤ used },
     ghost small: { used < 2 ^ 62 },
     ghost least: { 65 ≤ used },
-    ghost few: { packed < 2 ^ 48 },
+    ghost few: { packed ≤ end },
+    ghost near: { end < 2 ^ 30 },
 }

@@ -92,12 +92,15 @@ pub fn gather(
     requires few { IfSome found (λ o. AreFew o.records.items) }
     requires few_log { AreFew log.items }
     requires size { length (log_records (segments_of found)) < 2 ^ 30 }
+    requires place { IfSome found (λ o. o.gate ≡ 64 + length (log_records (payloads o.records.items))) }
+    requires near { IfSome found (λ o. o.gate < 2 ^ 30) }
     requires size_log { length (log_records (payloads log.items)) < 2 ^ 30 }
     ensures judged { Judged (list_damage head.now.base (slice_get head.now.bytes 10) (places log.items) (places_of found)) result }
     ensures gathered { IfOk result (λ o. IsGathered head.now.base (payloads log.items) found o.packed o.end o.used (payloads o.records.items)) }
     ensures room { IfOk result (λ o. 65 + length (log_records (payloads log.items)) ≤ o.used) }
     ensures small { IfOk result (λ o. o.used < 2 ^ 62) }
-    ensures few { IfOk result (λ o. o.packed < 2 ^ 30) }
+    ensures few { IfOk result (λ o. o.packed ≤ o.end) }
+    ensures near { IfOk result (λ o. o.end < 2 ^ 30) }
     ensures all_few { IfOk result (λ o. AreFew o.records.items) }
     ensures fault { IfErr result (λ e. IsDiskFault e → ⊥) }
 {

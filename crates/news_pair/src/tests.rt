@@ -1,4 +1,6 @@
 //! Pairs of files in memory: the list that both hold, the base that opening puts right, and where they are no pair.
+mod packing;
+
 use crate::{OpenedPair, Pair, PairFault};
 use news_io::{Keeper, MemoryDisk};
 use news_journal::Header;

@@ -13,7 +13,7 @@ use Rattle.news_journal.specs.Opened.{places}
 use Rattle.news_pair.specs.Damage.{first_of, no_entry, on_log, meeting_damage, IsPairDamage}
 use Rattle.news_pair.proofs.Rows.{get_there}
 use Rattle.news_pair.proofs.Judging.{list_first, list_second, list_third, list_whole}
-use Rattle.news_pair.proofs.Sizes.{all_few}
+use Rattle.news_pair.proofs.Sizes.{all_few, side_ends}
 use Rattle.news_pair.proofs.reading.gather.Goals as goal
 
 pub returns-clause-gathered : goal.returns-clause-gathered
@@ -84,7 +84,12 @@ returns-clause-judged c =
     (subst (λ (l : List Record). meeting_damage c.args.head.now.base (Some (get_or c.args.head.now.bytes 10 0)) (payloads c.deref-2.result.now) (places l) ≡ None) c.deref-3.ensures.value c.in_ok-meet.ensures.judged)))
 
 pub returns-clause-few : goal.returns-clause-few
-returns-clause-few c = omega (arith, c.len-packed.ensures, c.in_ok-end.ensures.few, c.requires.size)
+returns-clause-few c =
+    let ends = side_ends c.args.found c.requires.place c.requires.near in
+    omega (arith, c.len-packed.ensures, c.in_ok-end.ensures.few, c.in_ok-end.ensures.end, ends.0)
+
+pub returns-clause-near : goal.returns-clause-near
+returns-clause-near c = let ends = side_ends c.args.found c.requires.place c.requires.near in omega (arith, c.in_ok-end.ensures.end, ends.1)
 
 pub returns-clause-all_few : goal.returns-clause-all_few
 returns-clause-all_few c =

@@ -1,4 +1,4 @@
-use Rattle.std.proofs.Common.{◌≡◌, ◌⊎◌, ◌-◌, sym, subst, ◌∙◌, arith, List, ℕ, [], ◌∷◌, ◌++◌, Some, refl}
+use Rattle.std.proofs.Common.{◌≡◌, ◌⊎◌, ◌+◌, ◌-◌, ◌<◌, ◌^◌, sym, subst, ◌∙◌, arith, List, ℕ, [], ◌∷◌, ◌++◌, Some, refl}
 use Rattle.news_io.specs.Keeper.{payload_of}
 use Rattle.news_io.specs.Disk.{DiskGains}
 use Rattle.news_journal.specs.Log.{opened}
@@ -14,11 +14,12 @@ returns-clause-pairs g c = λ h pairs some es segment size next.
     let disk = g.D.Disk.disk in
     let self = c.args.self in
     let payload = payload_of c.args.framed.now in
+    let sum : c.args.self.packed + c.args.count < 2 ^ 48 = omega arith in
     let has = has_segments self.store (disk.seen self.side) (disk.may_leave self.side) self.end pairs.side_is some in
     let j = c.at_gate-side.ensures in
     let logs = side_logs disk self.log self.side self.store self.base self.packed self.end h pairs has.0 has.1 c.at_gate-side.result j.disk (j.head ∙ c.side_header.ensures) j.gate j.ajar in
     let end : c.size-end.result - 1 ≡ c.keep.new.self.gate = omega (arith, c.size-end.ensures) in
-    segment_holds disk self.log self.side self.store self.base self.packed self.end h pairs has.0 has.1 payload es c.args.count segment size next c.keep.new.self (c.in_default.ensures.logs has.0 logs) (c.keep.ensures.head ∙ j.head ∙ c.side_header.ensures) c.in_default.ensures.shut (c.in_default.ensures.durable logs.told) _ _ refl c.requires.few end _ c.into_disk-2.ensures
+    segment_holds disk self.log self.side self.store self.base self.packed self.end h pairs has.0 has.1 payload es c.args.count segment size next c.keep.new.self (c.in_default.ensures.logs has.0 logs) (c.keep.ensures.head ∙ j.head ∙ c.side_header.ensures) c.in_default.ensures.shut (c.in_default.ensures.durable logs.told) _ _ refl sum end _ c.into_disk-2.ensures
 
 pub returns-clause-crash : goal.returns-clause-crash
 returns-clause-crash g c = λ h pairs shut some es segment size next.
