@@ -12,3 +12,4 @@ pub mod Issuing
 pub mod Placed
 pub mod Making
 pub mod Answering
+pub mod Framing

@@ -25,9 +25,9 @@ use Rattle.news_types.proofs.Subscribed.{listed_is}
 use Rattle.news_types.proofs.Members.{none_some, some_is}
 use Rattle.desk_rules.specs.Asked.{is_of_desks, caller_denial, may_denial, work_denial, knows_denial}
 use Rattle.content_filters.specs.Reasons.{denial_by}
-use Rattle.story_tables.specs.declared.sort.Sort.{Sort}
-use Rattle.story_tables.specs.declared.sort.Sort.TheVariants as sort
-use Rattle.story_tables.specs.Sorts.{sort_of}
+use Rattle.item_commands.specs.declared.sort.Sort.{Sort}
+use Rattle.item_commands.specs.declared.sort.Sort.TheVariants as sort
+use Rattle.item_commands.specs.Sorts.{sort_of}
 use Rattle.newsroom.specs.Reasons.{rest_denial, resume_by, is_rule_sort}
 
 pub or_assoc : (a b c : Option Denial) → or_else (or_else a b) c ≡ or_else a (or_else b c)

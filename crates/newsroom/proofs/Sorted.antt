@@ -8,9 +8,9 @@ use Rattle.content_filters.specs.Reasons.{is_filter_command}
 use Rattle.products.specs.Asked.{is_asked}
 use Rattle.rule_tables.specs.Asked.{is_desk_command}
 use Rattle.rule_tables.specs.Sources.{is_source_command}
-use Rattle.story_tables.specs.declared.sort.Sort.{Sort}
-use Rattle.story_tables.specs.declared.sort.Sort.TheVariants as sort
-use Rattle.story_tables.specs.Sorts.{sort_of}
+use Rattle.item_commands.specs.declared.sort.Sort.{Sort}
+use Rattle.item_commands.specs.declared.sort.Sort.TheVariants as sort
+use Rattle.item_commands.specs.Sorts.{sort_of}
 use Rattle.story_tables.specs.Parts.{is_silent}
 
 is_desks : Sort → Bool

@@ -1,24 +1,24 @@
--- Which questions the newsroom answers so far.
-use Rattle.std.specs.Prelude.{Bool, true, false, IsTrue, Option, Some, None}
+-- Questions, and what is told.
+use Rattle.std.specs.Prelude.{ℕ, Bool, true, false, Option, Some, None}
 use Rattle.news_types.specs.declared.query.Query.{Query}
 use Rattle.news_types.specs.declared.query.Query.TheVariants as query
 use Rattle.news_types.specs.declared.query.Answer.{Answer}
 use Rattle.news_types.specs.declared.query.Answer.TheVariants as told
 use Rattle.news_types.specs.declared.query.ItemRow.{ItemRow}
+use Rattle.news_types.specs.declared.query.Publication.{Publication}
 use Rattle.news_types.specs.declared.words.Thing.TheVariants as thing
 
-abbrev pub is_built_query : Query → Bool
-is_built_query (query.Feed s after) = true
-is_built_query (query.Item i) = true
-is_built_query (query.May user privilege) = true
-is_built_query query.Queue = true
-is_built_query query.Check = true
-is_built_query _ = false
-
-abbrev pub IsBuiltQuery : Query → Type 0
-IsBuiltQuery asked = IsTrue (is_built_query asked)
+-- the question is one for a frame
+abbrev pub asks_frame : Query → Bool
+asks_frame (query.Frame s k) = true
+asks_frame _ = false
 
 -- what is answered of an item, if it is there
 abbrev pub item_told : Option ItemRow → Answer
 item_told None = told.Unknown thing.Item
 item_told (Some row) = told.Item row
+
+-- what is answered of a publication, if it is there, where there are so many
+abbrev pub publication_told : ℕ → Option Publication → Answer
+publication_told count None = told.NoPublication count
+publication_told count (Some p) = told.Publication p

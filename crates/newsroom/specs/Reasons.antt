@@ -10,8 +10,8 @@ use Rattle.news_types.specs.Due.{standing_first, release_of}
 use Rattle.news_types.specs.Items.{Item, named_item}
 use Rattle.news_types.specs.Publications.{item, standing, state}
 use Rattle.news_types.specs.Denial.{unless, or_else, first_missing, missing, is_taken, member_denial, asked_desk, item_denial, time_denial, pause_denial, order_denial, operand_denial, limit_denial}
-use Rattle.story_tables.specs.declared.sort.Sort.{Sort}
-use Rattle.story_tables.specs.declared.sort.Sort.TheVariants.{Desks, Filters, Products, Sources, Works, Publishes, Follows, Withdraws}
+use Rattle.item_commands.specs.declared.sort.Sort.{Sort}
+use Rattle.item_commands.specs.declared.sort.Sort.TheVariants.{Desks, Filters, Products, Sources, Works, Publishes, Follows, Withdraws}
 
 -- the rest of the reasons, in their order
 abbrev pub rest_denial : History → Bytes → Command → ℕ → Option Denial

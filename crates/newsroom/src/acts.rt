@@ -7,7 +7,7 @@ ghost use Rattle.news_types.specs.Legal.{IsLegal};
 ghost use Rattle.news_types.specs.Delivery.{acked, choice};
 ghost use Rattle.news_types.specs.Denial.{receipt_denial};
 ghost use Rattle.news_types.specs.Outcome.{entry_of};
-ghost use Rattle.newsroom.specs.Stands.{StandsFor};
+ghost use Rattle.newsroom.specs.Stands.{StandsFor, store_of};
 ghost use Rattle.newsroom.specs.Acts.{IsSmall, may_follow, follows_at, raises_by};
 
 use crate::newsroom::Newsroom;
@@ -42,7 +42,8 @@ impl Newsroom {
         requires stands { (h : History) × (StandsFor self.old h × (length h < 4294967295)) }
         requires small { IsSmall act.now }
         requires early { moment < 253402300800 }
-        ensures { (h : History) → StandsFor self.old h → IsLegal (entry_of moment act.now ∷ h) → StandsFor self.new (entry_of moment act.now ∷ h) }
+        ensures stands { (h : History) → StandsFor self.old h → IsLegal (entry_of moment act.now ∷ h) → StandsFor self.new (entry_of moment act.now ∷ h) }
+        ensures store { store_of self.new ≡ store_of self.old }
     {
         self.entries += 1;
         self.moment = moment;
@@ -57,6 +58,7 @@ impl Newsroom {
 
     // Remembers the last entry as a stop.
     fn halt(&mut self, moment: Moment)
+        ensures store { store_of self.new ≡ store_of self.old }
         ensures stop { self.new.last_stop ≡ self.old.entries }
         ensures entries { self.new.entries ≡ self.old.entries }
         ensures at { self.new.moment ≡ self.old.moment }

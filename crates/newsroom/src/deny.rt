@@ -4,14 +4,14 @@ ghost use Rattle.news_types.specs.Names.{Bytes};
 ghost use Rattle.news_types.specs.History.{History};
 ghost use Rattle.news_types.specs.Denial.{command_denial, past_denial, release_denial, times_denial};
 ghost use Rattle.desk_rules.specs.Asked.{caller_denial};
-ghost use Rattle.story_tables.specs.Sorts.{sort_of};
-ghost use Rattle.story_tables.specs.declared.sort.Sort.TheVariants as sort;
+ghost use Rattle.item_commands.specs.Sorts.{sort_of};
+ghost use Rattle.item_commands.specs.declared.sort.Sort.TheVariants as sort;
 ghost use Rattle.newsroom.specs.Stands.{StandsFor};
 ghost use Rattle.newsroom.specs.Reasons.{rest_denial, resume_by};
 
 use crate::newsroom::Newsroom;
+use item_commands::{Sort, named_item, sort_of};
 use news_types::{Command, Denial, Moment, Name, State, Thing};
-use story_tables::{Sort, named_item, sort_of};
 
 impl Newsroom {
     // The first reason to deny a caller the command.

@@ -12,7 +12,7 @@ ghost use Rattle.news_types.specs.Outcome.{kept, ingest_at, reply_to, entry_of, 
 ghost use Rattle.rule_tables.specs.Keeps.{KeepsRules};
 ghost use Rattle.story_tables.specs.Ingests.{effect_of};
 ghost use Rattle.story_tables.specs.Parts.{HasRoom as HasPartRoom, IsFor as IsForParts};
-ghost use Rattle.newsroom.specs.Stands.{StandsFor, Stands};
+ghost use Rattle.newsroom.specs.Stands.{StandsFor, Stands, store_of};
 ghost use Rattle.newsroom.specs.Ingests.{published_at, IsThereIfMade};
 ghost use Rattle.newsroom.specs.Changes.{HasPlaceRoom, HasIngestRoom, HasMemory, IsForPlace, IsForIngest, IsFor, IfChange, Decides};
 
@@ -33,6 +33,7 @@ impl Newsroom {
         requires stands { Stands self.old }
         ensures outcome { (h : History) → StandsFor self.old h → Decides (ingest_at h provider.now come.now moment) (kept h moment (Ingest provider.now come.now)) result }
         ensures stays { (h : History) → StandsFor self.old h → StandsFor self.new h }
+        ensures store { store_of self.new ≡ store_of self.old }
         ensures memory { IfChange result (λ change. HasMemory self.new change) }
         ensures change { (h : History) → StandsFor self.old h → last_moment h ≤ moment → IfChange result (λ change. IsFor change (entry_of moment (Ingest provider.now come.now)) h) }
     {
@@ -54,6 +55,7 @@ impl Newsroom {
         ensures outcome { (h : History) → StandsFor self.old h → effect_of effect.now ≡ effect_at h provider.now come.now moment
             → Decides (ingest_at h provider.now come.now moment) (kept h moment (Ingest provider.now come.now)) result }
         ensures stays { (h : History) → StandsFor self.old h → StandsFor self.new h }
+        ensures store { store_of self.new ≡ store_of self.old }
         ensures memory { IfChange result (λ change. HasMemory self.new change) }
         ensures change { (h : History) → StandsFor self.old h → last_moment h ≤ moment → effect_of effect.now ≡ effect_at h provider.now come.now moment
             → IfChange result (λ change. IsFor change (entry_of moment (Ingest provider.now come.now)) h) }
@@ -92,6 +94,7 @@ impl Newsroom {
     ) -> Result<IngestChange, Memory>
         requires stands { Stands self.old }
         ensures stays { (h : History) → StandsFor self.old h → StandsFor self.new h }
+        ensures store { store_of self.new ≡ store_of self.old }
         ensures room { IfOk result (λ change. HasIngestRoom self.new change) }
         ensures change { (h : History) → StandsFor self.old h → IsLegal (entry_of moment (Ingest provider.now come.now) ∷ h) → effect_of effect.now ≡ effect_at h provider.now come.now moment
             → IfOk result (λ change. IsForIngest change moment provider.now come.now h) }
@@ -111,6 +114,7 @@ impl Newsroom {
     ) -> Result<Parts, Memory>
         requires stands { Stands self.old }
         ensures stays { (h : History) → StandsFor self.old h → StandsFor self.new h }
+        ensures store { store_of self.new ≡ store_of self.old }
         ensures room { IfOk result (λ parts. HasPartRoom self.new.stories parts) }
         ensures change { (h : History) → StandsFor self.old h → last_moment h ≤ moment → effect_of effect.now ≡ effect_at h provider.now come.now moment
             → IfOk result (λ parts. IsForParts parts moment (Ingest provider.now come.now) h) }
@@ -133,6 +137,7 @@ impl Newsroom {
     ) -> Result<Parts, Memory>
         requires stands { Stands self.old }
         ensures stays { (h : History) → StandsFor self.old h → StandsFor self.new h }
+        ensures store { store_of self.new ≡ store_of self.old }
         ensures room { IfOk result (λ parts. HasPartRoom self.new.stories parts) }
         ensures change { (h : History) → StandsFor self.old h → last_moment h ≤ moment → effect_at h provider.now come.now moment ≡ NewAt place.now true
             → IfOk result (λ parts. IsForParts parts moment (Ingest provider.now come.now) h) }
@@ -159,6 +164,7 @@ impl Newsroom {
         requires stands { (h : History) × (m : ℕ) × (name : Bytes) × (come : Incoming) × (StandsFor self.old h × IsForIngest change m name come h × (length h < 4294967295)) }
         requires memory { HasIngestRoom self.old change }
         ensures stands { (h : History) (m : ℕ) (name : Bytes) (come : Incoming) → StandsFor self.old h → IsForIngest change m name come h → StandsFor self.new (entry_of m (Ingest name come) ∷ h) }
+        ensures store { store_of self.new ≡ store_of self.old }
         ensures reply { (h : History) (m : ℕ) (name : Bytes) (come : Incoming) → StandsFor self.old h → IsForIngest change m name come h → result ≡ reply_to h m (Ingest name come) }
     {
         let IngestChange { parts, place } = change;

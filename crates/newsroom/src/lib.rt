@@ -6,6 +6,7 @@ mod ask;
 mod callers;
 mod change;
 mod deny;
+mod frame;
 mod incoming;
 mod ingest;
 mod newsroom;

@@ -5,7 +5,7 @@ ghost use Rattle.news_types.specs.declared.entry.Act.TheVariants.{Request};
 ghost use Rattle.news_types.specs.History.{History, moment as last_moment, last_stop};
 ghost use Rattle.news_types.specs.Outcome.{kept, request_at, reply_to, entry_of};
 ghost use Rattle.newsroom.specs.Acts.{IsSmall};
-ghost use Rattle.newsroom.specs.Stands.{StandsFor, Stands};
+ghost use Rattle.newsroom.specs.Stands.{StandsFor, Stands, store_of};
 ghost use Rattle.newsroom.specs.Changes.{HasMemory, IsFor, IfChange, Decides, Prepares};
 
 use crate::callers::{self, Last};
@@ -34,7 +34,8 @@ pub struct Newsroom {
 impl Newsroom {
     /// A newsroom of this store, which stands for the empty list.
     pub fn new(alloc: Global, store: Uuid) -> Result<Newsroom, Memory>
-        ensures { IfOk result (λ newsroom. StandsFor newsroom []) }
+        ensures stands { IfOk result (λ newsroom. StandsFor newsroom []) }
+        ensures store { IfOk result (λ newsroom. store_of newsroom ≡ store) }
     {
         Ok(Newsroom {
             alloc,
@@ -77,6 +78,7 @@ impl Newsroom {
         requires given { IsSmall act.now → ⊥ }
         ensures outcome { (h : History) → StandsFor self.old h → Prepares h moment act.now result }
         ensures stays { (h : History) → StandsFor self.old h → StandsFor self.new h }
+        ensures store { store_of self.new ≡ store_of self.old }
         ensures memory { IfChange result (λ change. HasMemory self.new change) }
         ensures change { (h : History) → StandsFor self.old h → last_moment h ≤ moment → IfChange result (λ change. IsFor change (entry_of moment act.now) h) }
     {
@@ -102,6 +104,7 @@ impl Newsroom {
         requires stands { Stands self.old }
         ensures outcome { (h : History) → StandsFor self.old h → Decides (request_at h caller.now number command.now moment) (kept h moment (Request caller.now number command.now)) result }
         ensures stays { (h : History) → StandsFor self.old h → StandsFor self.new h }
+        ensures store { store_of self.new ≡ store_of self.old }
         ensures memory { IfChange result (λ change. HasMemory self.new change) }
         ensures change { (h : History) → StandsFor self.old h → last_moment h ≤ moment → IfChange result (λ change. IsFor change (entry_of moment (Request caller.now number command.now)) h) }
     {
@@ -127,6 +130,7 @@ impl Newsroom {
         requires stands { (h : History) × (e : Entry) × (StandsFor self.old h × IsFor change e h × (length h < 4294967295)) }
         requires memory { HasMemory self.old change }
         ensures stands { (h : History) (e : Entry) → StandsFor self.old h → IsFor change e h → StandsFor self.new (e ∷ h) }
+        ensures store { store_of self.new ≡ store_of self.old }
         ensures reply { (h : History) (e : Entry) → StandsFor self.old h → IsFor change e h → result ≡ reply_to h e.moment e.act }
     {
         match change {

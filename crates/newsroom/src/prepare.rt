@@ -8,7 +8,7 @@ ghost use Rattle.news_types.specs.Denial.{operand_denial};
 ghost use Rattle.news_types.specs.Legal.{IsLegal};
 ghost use Rattle.news_types.specs.Publications.{issued_by_command, made};
 ghost use Rattle.news_types.specs.Outcome.{reply_to, entry_of};
-ghost use Rattle.newsroom.specs.Stands.{StandsFor, Stands};
+ghost use Rattle.newsroom.specs.Stands.{StandsFor, Stands, store_of};
 ghost use Rattle.news_types.specs.declared.command.Command.TheVariants as command;
 ghost use Rattle.story_tables.specs.Issued.{issues, issued_of};
 ghost use Rattle.story_tables.specs.Parts.{HasRoom as HasPartRoom, IsFor as IsForParts};
@@ -32,6 +32,7 @@ impl Newsroom {
         requires stands { Stands self.old }
         requires operands { operand_denial command.now ≡ None }
         ensures stays { (h : History) → StandsFor self.old h → StandsFor self.new h }
+        ensures store { store_of self.new ≡ store_of self.old }
         ensures room { IfOk result (λ change. HasRequestRoom self.new change) }
         ensures change { (h : History) → StandsFor self.old h → IsLegal (entry_of moment (Request caller.now number command.now) ∷ h) → IfOk result (λ change. IsForRequest change moment caller.now number command.now h) }
     {
@@ -56,6 +57,7 @@ impl Newsroom {
     fn prepare_parts(&mut self, command: &Command, moment: Moment) -> Result<Parts, Memory>
         requires stands { Stands self.old }
         ensures stays { (h : History) → StandsFor self.old h → StandsFor self.new h }
+        ensures store { store_of self.new ≡ store_of self.old }
         ensures room { IfOk result (λ parts. HasPartRoom self.new.stories parts) }
         ensures change { (h : History) (caller : Bytes) (number : ℕ) → StandsFor self.old h → IsLegal (entry_of moment (Request caller number command.now) ∷ h) → IfOk result (λ parts. IsForParts parts moment (Request caller number command.now) h) }
     {
@@ -81,6 +83,7 @@ impl Newsroom {
     ) -> Result<Parts, Memory>
         requires stands { Stands self.old }
         ensures stays { (h : History) → StandsFor self.old h → StandsFor self.new h }
+        ensures store { store_of self.new ≡ store_of self.old }
         ensures room { IfOk result (λ parts. HasPartRoom self.new.stories parts) }
         ensures change { (h : History) (caller : Bytes) (number : ℕ) → StandsFor self.old h → last_moment h ≤ moment → IfOk result (λ parts. IsForParts parts moment (Request caller number (command.Flash story.now targets.now)) h) }
     {
@@ -99,6 +102,7 @@ impl Newsroom {
     fn prepare_publication(&mut self, command: &Command, moment: Moment) -> Result<Parts, Memory>
         requires stands { Stands self.old }
         ensures stays { (h : History) → StandsFor self.old h → StandsFor self.new h }
+        ensures store { store_of self.new ≡ store_of self.old }
         ensures room { IfOk result (λ parts. HasPartRoom self.new.stories parts) }
         ensures change { (h : History) (caller : Bytes) (number : ℕ) → StandsFor self.old h → issues command.now ≡ true → IsLegal (entry_of moment (Request caller number command.now) ∷ h)
             → IfOk result (λ parts. IsForParts parts moment (Request caller number command.now) h) }
@@ -118,6 +122,7 @@ impl Newsroom {
     ) -> Result<Parts, Memory>
         requires stands { Stands self.old }
         ensures stays { (h : History) → StandsFor self.old h → StandsFor self.new h }
+        ensures store { store_of self.new ≡ store_of self.old }
         ensures room { IfOk result (λ parts. HasPartRoom self.new.stories parts) }
         ensures change { (h : History) (caller : Bytes) (number : ℕ) → StandsFor self.old h → issues command.now ≡ true → IsLegal (entry_of moment (Request caller number command.now) ∷ h)
             → Some issue ≡ issued_of (issued_by_command (made h) moment caller command.now) → IfOk result (λ parts. IsForParts parts moment (Request caller number command.now) h) }
@@ -144,6 +149,7 @@ impl Newsroom {
         requires memory { HasRequestRoom self.old change }
         ensures stands { (h : History) (m : ℕ) (caller : Bytes) (number : ℕ) (command : Command) → StandsFor self.old h → IsForRequest change m caller number command h
             → StandsFor self.new (entry_of m (Request caller number command) ∷ h) }
+        ensures store { store_of self.new ≡ store_of self.old }
         ensures reply { (h : History) (m : ℕ) (caller : Bytes) (number : ℕ) (command : Command) → StandsFor self.old h → IsForRequest change m caller number command h
             → result ≡ reply_to h m (Request caller number command) }
     {

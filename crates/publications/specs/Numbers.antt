@@ -1,5 +1,6 @@
 -- The numbers of each item's publications.
-use Rattle.std.specs.Prelude.{◌<◌, ◌==◌, ℕ, List, [], ◌∷◌, ◌++◌, Option, Some, None, Vec, nat_eq, vec_len, vec_capacity, if◌then◌else◌}
+use Rattle.std.specs.Prelude.{◌<◌, ◌==◌, ℕ, List, [], ◌∷◌, ◌++◌, Option, Some, None, Vec, nat_eq, nat_lt, reverse, unwrap_or, vec_len, vec_capacity, if◌then◌else◌}
+use Rattle.std.specs.List.{find}
 use Rattle.std.specs.HashMap.{HashMap, get}
 use Rattle.news_types.specs.Due.{Pub}
 
@@ -12,6 +13,10 @@ listed (Some v) = v.items
 abbrev pub numbers_of : ℕ → List Pub → List ℕ
 numbers_of i [] = []
 numbers_of i (p ∷ ps) = if p.item == i then numbers_of i ps ++ p.number ∷ [] else numbers_of i ps
+
+-- the last of the numbers that is below this one, or 0
+abbrev pub last_below : ℕ → List ℕ → ℕ
+last_below below numbers = unwrap_or (find (λ n. nat_lt n below) (reverse numbers)) 0
 
 -- in the list there is room for one more
 abbrev pub FitsOne : {A : Type 0} → Option (Vec ℕ A) → Type 0

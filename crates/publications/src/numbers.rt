@@ -1,7 +1,7 @@
 //! The numbers of each item's publications.
 ghost use Rattle.std.specs.Prelude.{◌≡◌, ◌++◌, [], ◌∷◌, ℕ, OnOk, nat_eq, if◌then◌else◌};
 ghost use Rattle.std.specs.HashMap.{get};
-ghost use Rattle.publications.specs.Numbers.{listed, HasPlace};
+ghost use Rattle.publications.specs.Numbers.{listed, last_below, HasPlace};
 
 use news_types::Memory;
 use std::alloc::Global;
@@ -15,6 +15,14 @@ pub(crate) fn numbers_of(numbers: &HashMap<u32, Vec<u32>>, item: u32) -> &[u32]
         Some(list) => list.as_slice(),
         None => &[],
     }
+}
+
+/// The last of the numbers that is below this one, or 0.
+pub(crate) fn last_below(numbers: &[u32], below: u32) -> u32
+    ensures { result ≡ last_below below numbers.now }
+{
+    let last = numbers.iter().rev().copied().find(|number| *number < below);
+    last.unwrap_or(0)
 }
 
 /// Takes the memory for one more number of an item.

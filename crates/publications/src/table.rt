@@ -4,10 +4,11 @@ ghost use Rattle.std.specs.Option.{option_copied};
 ghost use Rattle.std.specs.HashMap.{get};
 ghost use Rattle.news_types.specs.Names.{Bytes, is_in};
 ghost use Rattle.news_types.specs.Due.{Pub, standing_first, targets_of, release_to, had, had_by, latest};
+ghost use Rattle.news_types.specs.Answers.{last_of, number_of};
 ghost use Rattle.publications.specs.Numbers.{numbers_of};
 ghost use Rattle.publications.specs.Keeps.{Keeps, row_at, pub_at, shown, facts_of, subscribers_in, is_given};
 
-use crate::numbers::numbers_of;
+use crate::numbers::{last_below, numbers_of};
 use item_table::SharedStory;
 use news_types::{Due, Kind, Memory, Moment, Name, Names};
 use std::alloc::Global;
@@ -125,6 +126,14 @@ impl Publications {
         ensures { (ps st : List Pub) → Keeps self.now ps st → result.now ≡ numbers_of item ps }
     {
         numbers_of(&self.numbers, item)
+    }
+
+    /// The number of the item's newest publication whose number is below this one, with those that were withdrawn, or 0. It
+    /// takes no memory.
+    pub fn last_of(&self, item: u32, below: u32) -> u32
+        ensures { (ps st : List Pub) → Keeps self.now ps st → result ≡ number_of (last_of item below ps) }
+    {
+        last_below(numbers_of(&self.numbers, item), below)
     }
 }
 

@@ -17,7 +17,8 @@ use Rattle.news_types.specs.declared.command.Command.{Command}
 use Rattle.news_types.specs.declared.words.State.{State}
 use Rattle.news_types.specs.declared.story.Story.{Story}
 use Rattle.news_types.specs.Due.{Pub, standing_first}
-use Rattle.story_tables.specs.Asked.{story_given, set_by, row_in}
+use Rattle.item_commands.specs.Given.{story_given}
+use Rattle.story_tables.specs.Asked.{set_by, row_in}
 
 -- nothing is told of one that is not there
 pub item_untold : (h : History) (i : ℕ) (told : Option ItemFacts) → told ≡ option_map facts_of (item h i) → ((f : ItemFacts) → told ≡ Some f → ⊥) → item h i ≡ None

@@ -47,7 +47,7 @@ use Rattle.story_tables.specs.declared.feeds.FeedStep.{FeedStep}
 use Rattle.story_tables.specs.declared.feeds.FeedStep.TheVariants as step
 use Rattle.story_tables.specs.declared.stories.Stories.{Stories}
 use Rattle.story_tables.specs.Keeps.{KeepsStories}
-use Rattle.story_tables.specs.Asked.{story_given}
+use Rattle.item_commands.specs.Given.{story_given}
 use Rattle.story_tables.specs.Feeds.{FeedsFor, HasFeedRoom, SameDelivery}
 use Rattle.story_tables.specs.Issued.{issues, issue_of, issued_of, left_by_kind, IsTold, given_by_kind, IsStepOf}
 use Rattle.story_tables.specs.Publishing.{IsDueTo}

@@ -16,4 +16,5 @@ pub mod FirstTime
 pub mod Backed
 pub mod Leaving
 pub mod Numbered
+pub mod ByNumber
 pub mod Issued

@@ -24,7 +24,7 @@ use Rattle.story_tables.specs.Pages.{row_of, row_shown}
 
 -- ---- the table
 
-oldest_counted : (ps : List Pub) → length (oldest_first ps) ≡ length ps
+pub oldest_counted : (ps : List Pub) → length (oldest_first ps) ≡ length ps
 oldest_counted [] = refl
 oldest_counted (p ∷ ps) = length-append (oldest_first ps) (p ∷ []) ∙ omega (arith, oldest_counted ps)
 
@@ -33,7 +33,7 @@ get_front [] y k x is = absurd (none_some x is)
 get_front (z ∷ xs) y zero x is = is
 get_front (z ∷ xs) y (suc k) x is = get_front xs y k x is
 
-get_last : {A : Type 0} (xs : List A) (y : A) → slice_get (xs ++ y ∷ []) (length xs) ≡ Some y
+pub get_last : {A : Type 0} (xs : List A) (y : A) → slice_get (xs ++ y ∷ []) (length xs) ≡ Some y
 get_last [] y = refl
 get_last (x ∷ xs) y = get_last xs y
 
@@ -61,7 +61,7 @@ listed_among h it among =
     let above : (it.number == 0) ≡ false = grind (arith, nat_tests) in
     (found.0, found.2, ap (λ b. cond b None (slice_get (oldest_first (pubs h)) (it.number - 1))) above ∙ oldest_at (pubs h) among.0 (it.number - 1) found.0 (omega (arith, at, near, same)) found.1)
 
-numbered_listed : (h : History) (s : Bytes) (k : ℕ) (d : Dispatch) → numbered (feed h s) k ≡ Some d → (p : Pub) × (as_shown p ≡ d.shown) × (pub_at (pubs h) d.shown.number ≡ Some p)
+pub numbered_listed : (h : History) (s : Bytes) (k : ℕ) (d : Dispatch) → numbered (feed h s) k ≡ Some d → (p : Pub) × (as_shown p ≡ d.shown) × (pub_at (pubs h) d.shown.number ≡ Some p)
 numbered_listed h s zero d is = absurd (none_some d is)
 numbered_listed h s (suc k) d is = listed_among h d.shown (each_get (λ (e : Dispatch). IsAmong (pubs h) e.shown) (feed h s) k d (feed_among h s) is)
 

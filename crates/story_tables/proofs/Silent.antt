@@ -26,7 +26,8 @@ use Rattle.item_table.specs.Steps.{IsFor as IsForItems, Sets, Leads}
 use Rattle.publications.specs.declared.change.PublicationChange.{PublicationChange}
 use Rattle.publications.specs.declared.change.Step.TheVariants as pub_step
 use Rattle.publications.specs.Steps.{IsFor as IsForPublications, Leads as LeadsPublications}
-use Rattle.story_tables.specs.Asked.{story_given, set_by}
+use Rattle.item_commands.specs.Given.{story_given}
+use Rattle.story_tables.specs.Asked.{set_by}
 use Rattle.story_tables.specs.Feeds.{FeedsFor, feeds_of}
 use Rattle.story_tables.specs.Parts.{is_silent, Allows}
 

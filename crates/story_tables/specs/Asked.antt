@@ -1,8 +1,6 @@
 -- What is asked of an item and of a command.
-use Rattle.std.specs.Prelude.{ℕ, ◌==◌, ◌&&◌, Bool, nat_lt, Option, Some, None}
+use Rattle.std.specs.Prelude.{ℕ, ◌==◌, ◌&&◌, Bool, nat_lt, Option, None}
 use Rattle.news_types.specs.declared.command.Command.{Command}
-use Rattle.news_types.specs.declared.command.Command.TheVariants as command
-use Rattle.news_types.specs.declared.story.Story.{Story}
 use Rattle.news_types.specs.declared.rules.Place.{Place}
 use Rattle.news_types.specs.declared.query.Holder.{Holder}
 use Rattle.news_types.specs.declared.query.ItemRow.{ItemRow}
@@ -10,14 +8,9 @@ use Rattle.news_types.specs.History.{History}
 use Rattle.news_types.specs.Due.{Pub, standing_first}
 use Rattle.news_types.specs.Items.{Item, state_at, state_after, version_after}
 use Rattle.news_types.specs.Publications.{standing}
+use Rattle.item_commands.specs.Given.{story_given}
 use Rattle.publish_queue.specs.declared.ask.FeedFacts.{FeedFacts}
 use Rattle.item_table.specs.declared.row.Setting.{Setting}
-
--- the story that a command gives its item, if it gives one
-abbrev pub story_given : Command → Option Story
-story_given (command.Edit i session story) = Some story
-story_given (command.Correct i session story) = Some story
-story_given _ = None
 
 -- what a command sets its item to at the moment, where that was it, and the first publication is this one
 abbrev pub set_by : Command → ℕ → Option Pub → Item → Setting

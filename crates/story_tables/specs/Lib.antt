@@ -1,4 +1,3 @@
-pub mod Sorts
 pub mod Feeds
 pub mod Keeps
 pub mod Parts

@@ -14,8 +14,8 @@ ghost use Rattle.news_types.specs.Items as items;
 ghost use Rattle.news_types.specs.Publications as published;
 ghost use Rattle.story_tables.specs.Asked.{pauses_at, row_in};
 
-use crate::state::state_at;
 use crate::stories::Stories;
+use item_commands::state_at;
 use news_types::{Denial, Holder, ItemRow, Memory, Moment, Name, Place, State, Thing};
 use publish_queue::FeedFacts;
 

@@ -18,8 +18,8 @@ ghost use Rattle.story_tables.specs.Ingests.{effect_of, on_known, is_held, IsFor
 
 use crate::feeds::FeedStep;
 use crate::parts::Parts;
-use crate::state::{moved, state_at};
 use crate::stories::Stories;
+use item_commands::{moved, state_at};
 use item_rules::Action;
 use item_table::{ItemChange, Setting, SharedStory};
 use news_types::{Incoming, Memory, Moment, Name, Place, PubStatus, Reply, State, Story, Text};

@@ -12,9 +12,8 @@ ghost use Rattle.story_tables.specs.Issued.{issued_of, is_reached};
 ghost use Rattle.publish_queue.specs.Many.{names_in};
 ghost use Rattle.story_tables.specs.Keeps.{KeepsStories, HasPlace};
 
-use crate::sort::named_item;
-use crate::state::version_after;
 use crate::stories::Stories;
+use item_commands::{named_item, version_after};
 use item_table::SharedStory;
 use news_types::{Command, Due, Kind, Memory, Moment, Names, Story, Text};
 use release_rules::release;

@@ -9,15 +9,14 @@ ghost use Rattle.news_types.specs.declared.entry.Act.TheVariants.{Request};
 ghost use Rattle.news_types.specs.declared.command.Command.TheVariants as command;
 ghost use Rattle.item_table.specs.Steps.{HasRoom as HasItemRoom, IsFor as IsForItems};
 ghost use Rattle.story_tables.specs.Feeds.{HasFeedRoom, feeds_of};
-ghost use Rattle.story_tables.specs.Asked.{story_given};
+ghost use Rattle.item_commands.specs.Given.{story_given};
 ghost use Rattle.story_tables.specs.Keeps.{KeepsStories, HasPlace};
 ghost use Rattle.story_tables.specs.Parts.{HasRoom, IsFor, Allows, is_silent};
 
 use crate::feeds::FeedStep;
 use crate::parts::Parts;
-use crate::sort::named_item;
-use crate::state::{state_after, state_at, story_given, version_after};
 use crate::stories::Stories;
+use item_commands::{named_item, state_after, state_at, story_given, version_after};
 use item_table::{ItemChange, Setting, SharedStory};
 use news_types::{Command, Memory, Moment, Reply, State, Story};
 use publications::PublicationChange;

@@ -1,18 +1,20 @@
-use Rattle.std.proofs.Common.{ap}
-use Rattle.news_types.specs.declared.query.Answer.TheVariants as told
+use Rattle.std.proofs.Common.{ap, sym, ◌∙◌}
+use mathlib.Core.Bool.{true≢false}
+use Rattle.newsroom.specs.Asking.{asks_frame}
+use Rattle.newsroom.proofs.Framing.{plain_but_frame, ok_weaker}
 use Rattle.newsroom.proofs.newsroom.Newsroom.ask.Goals as goal
 
-pub returns-in-Item : goal.returns-in-Item
-returns-in-Item c = rw c.in-Item.is c.ask_item.ensures
+pub returns-in-Frame-clause-answer : goal.returns-in-Frame-clause-answer
+returns-in-Frame-clause-answer c = rw c.in-Frame.is c.ask_frame.ensures
 
-pub returns-in-May : goal.returns-in-May
-returns-in-May c h frame stands = rw c.in-May.is (ap told.May (c.holds.ensures h stands.rules))
+pub returns-in-Frame-clause-plain : goal.returns-in-Frame-clause-plain
+returns-in-Frame-clause-plain c plain = absurd (true≢false (sym (ap asks_frame c.in-Frame.is) ∙ plain))
 
-pub returns-in-Check : goal.returns-in-Check
-returns-in-Check c h frame stands = rw c.in-Check.is (c.ask_check.ensures h frame stands)
+pub ask_plain-requires-clause-plain : goal.ask_plain-requires-clause-plain
+ask_plain-requires-clause-plain c = plain_but_frame c.args.query.now c.in_default.not-Frame
 
-pub returns-in-Feed : goal.returns-in-Feed
-returns-in-Feed c = rw c.in-Feed.is c.ask_feed.ensures
+pub returns-in_default-clause-answer : goal.returns-in_default-clause-answer
+returns-in_default-clause-answer c = ok_weaker c.ask_plain.result _ _ (λ told each h stands. each h _ stands) c.ask_plain.ensures
 
-pub returns-in-Queue : goal.returns-in-Queue
-returns-in-Queue c = rw c.in-Queue.is c.ask_queue.ensures
+pub returns-in_default-clause-plain : goal.returns-in_default-clause-plain
+returns-in_default-clause-plain c plain = c.ask_plain.ensures

@@ -26,6 +26,7 @@ returns-in-Ok c =
     record {
       outcome = λ h stands does. accepts h name come m e does c.in_default-effect.not-Settled (sym (c.ingest_denied.ensures h come m stands does) ∙ c.in_default.is);
       stays = c.take_ingest_memory.ensures.stays;
+      store = c.take_ingest_memory.ensures.store;
       memory = record { room = c.in-Ok.ensures.room };
       change = λ h stands later does. record {
         act = c.in-Ok.ensures.change h stands (next_legal h name come m e does c.in_default-effect.not-Settled (sym (c.ingest_denied.ensures h come m stands does) ∙ c.in_default.is) stands.legal later) does;

@@ -1,7 +1,7 @@
 //! What sorts of commands there are.
 ghost use Rattle.std.specs.Prelude.{◌≡◌};
 ghost use Rattle.news_types.specs.Items.{named_item};
-ghost use Rattle.story_tables.specs.Sorts.{sort_of};
+ghost use Rattle.item_commands.specs.Sorts.{sort_of};
 
 use news_types::Command;
 

@@ -4,7 +4,7 @@ ghost use Rattle.news_types.specs.Due.{Pub};
 ghost use Rattle.news_types.specs.Items.{state_at, action_of, state_after, version_after};
 ghost use Rattle.news_types.specs.States.{moved};
 ghost use Rattle.publications.specs.Keeps.{facts_of};
-ghost use Rattle.story_tables.specs.Asked.{story_given};
+ghost use Rattle.item_commands.specs.Given.{story_given};
 
 use item_rules::{Action, next_state};
 use item_table::SharedStory;
@@ -13,7 +13,7 @@ use publications::FirstFacts;
 use std::alloc::Global;
 
 /// The state at a moment: what is scheduled counts as published from its release on.
-pub(crate) fn state_at(moment: Moment, first: Option<FirstFacts>, state: State) -> State
+pub fn state_at(moment: Moment, first: Option<FirstFacts>, state: State) -> State
     ensures { (p : Option Pub) → first ≡ option_map facts_of p → result ≡ state_at moment p state }
 {
     match (state, first) {
@@ -29,14 +29,14 @@ pub(crate) fn state_at(moment: Moment, first: Option<FirstFacts>, state: State) 
 }
 
 /// The state behind an action: without a row it stays.
-pub(crate) fn moved(action: Action, state: State) -> State
+pub fn moved(action: Action, state: State) -> State
     ensures { result ≡ moved action state }
 {
     next_state(state, action).unwrap_or(state)
 }
 
 /// The state behind a command.
-pub(crate) fn state_after(command: &Command, state: State) -> State
+pub fn state_after(command: &Command, state: State) -> State
     ensures { result ≡ state_after command.now state }
 {
     match action_of(command) {
@@ -66,7 +66,7 @@ fn action_of(command: &Command) -> Option<Action>
 }
 
 /// The version behind a command.
-pub(crate) fn version_after(command: &Command, version: u32) -> u32
+pub fn version_after(command: &Command, version: u32) -> u32
     requires { version < 4294967295 }
     ensures { result ≡ version_after command.now version }
 {
@@ -80,7 +80,7 @@ pub(crate) fn version_after(command: &Command, version: u32) -> u32
 }
 
 /// The story that a command gives its item, if it gives one.
-pub(crate) fn story_given(alloc: Global, command: &Command) -> Result<Option<SharedStory>, Memory>
+pub fn story_given(alloc: Global, command: &Command) -> Result<Option<SharedStory>, Memory>
     ensures { IfOk result (λ story. story ≡ story_given command.now) }
 {
     match command {

@@ -1,8 +1,8 @@
 -- What sorts of commands there are.
 use Rattle.news_types.specs.declared.command.Command.{Command}
 use Rattle.news_types.specs.declared.command.Command.TheVariants as command
-use Rattle.story_tables.specs.declared.sort.Sort.{Sort}
-use Rattle.story_tables.specs.declared.sort.Sort.TheVariants.{Desks, Filters, Products, Sources, Resumes, Stops, Makes, Works, Flashes, Publishes, Follows, Withdraws}
+use Rattle.item_commands.specs.declared.sort.Sort.{Sort}
+use Rattle.item_commands.specs.declared.sort.Sort.TheVariants.{Desks, Filters, Products, Sources, Resumes, Stops, Makes, Works, Flashes, Publishes, Follows, Withdraws}
 
 abbrev pub sort_of : Command → Sort
 sort_of (command.AddUser user privileges) = Desks
