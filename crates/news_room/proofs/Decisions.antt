@@ -1,17 +1,15 @@
 -- What the decision on a request is, by what was prepared for it.
-use Rattle.std.proofs.Common.{◌≡◌, ℕ, Bool, true, false, List, [], ◌∷◌, Option, Some, None, sym, ap, subst}
+use Rattle.std.proofs.Common.{◌≡◌, ℕ, Bool, List, [], ◌∷◌, None, sym, ap}
 use Rattle.news_types.specs.declared.entry.Entry.{Entry}
 use Rattle.news_types.specs.declared.entry.Act.{Act}
 use Rattle.news_types.specs.declared.entry.Act.TheVariants.{Request, Ingest}
-use Rattle.news_types.specs.Names.{Bytes}
 use Rattle.news_types.specs.History.{History}
 use Rattle.news_types.specs.Books.{Book}
 use Rattle.news_types.specs.Outcome.{Outcome, kept}
 use Rattle.news_types.specs.Outcome as outcome
 use Rattle.newsroom.specs.Changes.{Prepares, Decides}
-use Rattle.newsroom.specs.Stands.{StandsFor}
 use Rattle.newsroom.specs.declared.change.Prepared.{Prepared}
-use Rattle.news_room.specs.Stands.{Stands, LIMIT, numbers}
+use Rattle.news_room.specs.Stands.{LIMIT, numbers}
 use Rattle.news_room.specs.Steps.{Answers, Given, entries, by_act, outcome_of, KeepStep, After}
 use Rattle.news_room.specs.declared.answers.Answered.{Answered}
 use Rattle.news_room.specs.declared.room.Room.{Room}

@@ -1,6 +1,8 @@
 pub mod Appends
+pub mod Complete
 pub mod Crashes
 pub mod Decisions
+pub mod Events
 pub mod Going
 pub mod Legal
 pub mod Lists

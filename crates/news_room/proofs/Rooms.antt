@@ -1,13 +1,12 @@
 -- A room behind what its keeper did.
 use Rattle.std.specs.Prelude.{Result, IfOk}
-use Rattle.std.proofs.Common.{◌≡◌, Ok, Err, ℕ, ◌+◌, ◌<◌, ◌≤◌, min, true, List, [], ◌∷◌, ◌∙◌, arith}
+use Rattle.std.proofs.Common.{◌≡◌, Ok, Err, ℕ, ◌+◌, ◌<◌, ◌≤◌, min, true, [], ◌∷◌, ◌∙◌, arith}
 use Rattle.news_types.specs.declared.entry.Entry.{Entry}
-use Rattle.news_types.specs.Names.{Bytes}
 use Rattle.news_types.specs.History.{History, moment, moment_at}
 use Rattle.news_types.specs.Books.{Book, onto}
 use Rattle.news_types.specs.Members.{Each}
 use Rattle.entry_codec.specs.Formed.{IsEntry}
-use Rattle.newsroom.specs.Stands.{StandsFor}
+use Rattle.newsroom.specs.Stands.{StandsFor, store_of}
 use Rattle.news_room.specs.Log.{size_of, IsStored}
 use Rattle.news_room.specs.Stands.{Stands, Tells, LAST}
 use Rattle.news_room.specs.declared.room.Room.{Room}
@@ -15,8 +14,8 @@ use Rattle.news_io.specs.Keeper.{KeeperMeaning}
 
 module _ {K : Type 0} (keeper : KeeperMeaning K) where
   -- with one entry more
-  pub stands_more : (r r' : Room K) (b : Book) (e : Entry) (count : ℕ) → Stands keeper r b → r'.store ≡ r.store → StandsFor r'.machine (e ∷ b.list) → IsStored (e ∷ b.list)
-      → count ≡ size_of e → keeper.used r'.keeper ≡ keeper.used r.keeper + count → keeper.used r'.keeper ≤ LAST → (b.told ≡ true → Tells keeper r'.keeper (e ∷ b.list))
+  pub stands_more : (r r' : Room K) (b : Book) (e : Entry) (count : ℕ) → Stands keeper r b → store_of r'.machine ≡ store_of r.machine → StandsFor r'.machine (e ∷ b.list) → IsStored (e ∷ b.list)
+      → count ≡ size_of e → keeper.used r'.keeper ≡ keeper.used r.keeper + count → keeper.used r'.keeper ≤ LAST → (b.told ≡ true → Tells keeper r'.keeper b.store (e ∷ b.list))
       → Stands keeper r' (onto (e ∷ []) b)
   stands_more r r' b e count is store machine kept size grown within told = record {
     store_is = store ∙ is.store_is;
@@ -27,8 +26,8 @@ module _ {K : Type 0} (keeper : KeeperMeaning K) where
   }
 
   -- with none more
-  pub stands_same : (r r' : Room K) (b : Book) → Stands keeper r b → r'.store ≡ r.store → StandsFor r'.machine b.list
-      → keeper.used r'.keeper ≡ keeper.used r.keeper → (b.told ≡ true → Tells keeper r'.keeper b.list) → Stands keeper r' b
+  pub stands_same : (r r' : Room K) (b : Book) → Stands keeper r b → store_of r'.machine ≡ store_of r.machine → StandsFor r'.machine b.list
+      → keeper.used r'.keeper ≡ keeper.used r.keeper → (b.told ≡ true → Tells keeper r'.keeper b.store b.list) → Stands keeper r' b
   stands_same r r' b is store machine same told = record {
     store_is = store ∙ is.store_is;
     machine_for = machine;

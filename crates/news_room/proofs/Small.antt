@@ -21,7 +21,7 @@ use Rattle.news_types.specs.Legal.{some_waits}
 use Rattle.news_types.specs.Calls.{entry_if}
 use Rattle.news_types.specs.Outcome.{Outcome, Done, Denied, entry_of, kept, kept_unless, no_entry, receipt_at}
 use Rattle.news_types.specs.Outcome as outcome
-use Rattle.news_types.specs.Books.{Book, followed_by, onto}
+use Rattle.news_types.specs.Books.{Book, followed_by}
 use Rattle.news_types.proofs.Books.{behind_length}
 use Rattle.news_types.proofs.Legal.{second_no, holds_unless}
 use Rattle.news_io.specs.declared.keeper.AppendFault.{AppendFault}
@@ -29,10 +29,9 @@ use Rattle.news_io.specs.declared.keeper.AppendFault.TheVariants.{Fault, Full}
 use Rattle.entry_codec.specs.Answers.{IsSmall}
 use Rattle.newsroom.specs.Acts as small
 use Rattle.newsroom.specs.Acts.{may_follow}
-use Rattle.news_room.specs.Stands.{Stands, LIMIT, LAST, numbers}
+use Rattle.news_room.specs.Stands.{LIMIT, LAST, numbers}
 use Rattle.news_room.specs.Beside.{Beside}
-use Rattle.news_room.specs.Steps.{Given, Failed, Refused, entries, tick_entries, PutStep, ReleaseStep, Receives, TickStep, HaltStep, ToldStep, After, is_append_fault, is_tick_fault, is_kept_fault, ticked_by, kept_by}
-use Rattle.news_room.specs.declared.answers.Kept.{Kept}
+use Rattle.news_room.specs.Steps.{Given, Failed, Refused, entries, tick_entries, PutStep, ReleaseStep, Receives, TickStep, HaltStep, After, is_append_fault, is_tick_fault, is_kept_fault, ticked_by, kept_by}
 use Rattle.news_room.specs.declared.room.Room.{Room}
 use Rattle.news_room.proofs.Going.{after_should}
 use Rattle.news_io.specs.Keeper.{KeeperMeaning}
@@ -129,19 +128,15 @@ receives_none n o a is calm same = (
 -- ---- what was not kept, as it is answered
 
 module _ {K : Type 0} (keeper : KeeperMeaning K) (r r' : Room K) (b : Book) (more : List Entry) where
-  -- the room, what the step was, and what a crash leaves
-  abbrev pub Call : (should : List Entry) → Bool → Type 0 → Type 0
-  Call should failed step = Stands keeper r' (onto more b) × step × (b.told ≡ true → ToldStep keeper r r' b should more failed)
-
   pub not_halted : (now : ℕ) (why : AppendFault) → After keeper r r' b (entry_of (moment_at b.list now) Halt ∷ []) more (is_append_fault {A = Unit {0}} (Err why)) (PutStep (numbers keeper r r') LAST (entry_of (moment_at b.list now) Halt) more (Err why))
-      → Call (entry_of (moment_at b.list now) Halt ∷ []) (is_tick_fault (ticked_by why)) (HaltStep (numbers keeper r r') b now more (ticked_by why))
-  not_halted now Fault a = (a.stands, a.did, a.told)
-  not_halted now (Full size count) a = (a.stands, a.did, a.told)
+      → After keeper r r' b (entry_of (moment_at b.list now) Halt ∷ []) more (is_tick_fault (ticked_by why)) (HaltStep (numbers keeper r r') b now more (ticked_by why))
+  not_halted now Fault a = record { stands = a.stands; did = a.did; told = a.told }
+  not_halted now (Full size count) a = record { stands = a.stands; did = a.did; told = a.told }
 
   pub not_ticked : (now : ℕ) (why : AppendFault) → After keeper r r' b (tick_entries b.list (moment_at b.list now)) more (is_append_fault {A = Bool} (Err why)) (ReleaseStep (numbers keeper r r') b (moment_at b.list now) more (Err why))
-      → Call (tick_entries b.list (moment_at b.list now)) (is_tick_fault (ticked_by why)) (TickStep (numbers keeper r r') b now more (ticked_by why))
-  not_ticked now Fault a = (a.stands, a.did, a.told)
-  not_ticked now (Full size count) a = (a.stands, a.did, a.told)
+      → After keeper r r' b (tick_entries b.list (moment_at b.list now)) more (is_tick_fault (ticked_by why)) (TickStep (numbers keeper r r') b now more (ticked_by why))
+  not_ticked now Fault a = record { stands = a.stands; did = a.did; told = a.told }
+  not_ticked now (Full size count) a = record { stands = a.stands; did = a.did; told = a.told }
 
   pub not_raised : (s : Bytes) (n now : ℕ) (why : AppendFault) → After keeper r r' b (entry_of (moment_at b.list now) (Receipt s n) ∷ []) more (is_append_fault {A = Unit {0}} (Err why)) (PutStep (numbers keeper r r') LIMIT (entry_of (moment_at b.list now) (Receipt s n)) more (Err why))
       → After keeper r r' b (entry_of (moment_at b.list now) (Receipt s n) ∷ []) more (is_kept_fault (kept_by why)) (Receives (numbers keeper r r') more (kept b.list (moment_at b.list now) (Receipt s n)) (kept_by why))

@@ -1,5 +1,5 @@
 -- What a keeper does with the record of an entry.
-use Rattle.std.specs.Prelude.{◌≡◌, ℕ, List, [], ◌∷◌, ◌++◌, length, Option, Result, Ok, Err, ◌+◌}
+use Rattle.std.specs.Prelude.{◌≡◌, ℕ, List, [], ◌∷◌, ◌++◌, length, Result, Ok, Err, ◌+◌}
 use Rattle.news_types.specs.declared.entry.Entry.{Entry}
 use Rattle.news_types.specs.Names.{Bytes}
 use Rattle.news_io.specs.Moments.{Elapses}
@@ -24,6 +24,7 @@ module _ {K : Type 0} (keeper : KeeperMeaning K) where
   pub record Appended (k k' : K) (limit : ℕ) (bytes : Bytes) (r : Result (Unit {0}) AppendFault) (after : List Bytes) : Type 0 where
     pub full : IsFullExactly (keeper.used k) limit bytes r
     pub count : AppendCounts (keeper.faults k) (keeper.faults k') r
+    pub label : keeper.label k' ≡ keeper.label k
     pub told : keeper.tells k → keeper.tells k'
     pub list_is : keeper.tells k → keeper.list k' ≡ after
     pub doubt : keeper.tells k → DoubtsAfter (keeper.doubts k) (keeper.doubts k') (payload_of bytes) r

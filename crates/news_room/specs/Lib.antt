@@ -1,6 +1,9 @@
 pub mod Appends
 pub mod Beside
+pub mod Complete
+pub mod Events
 pub mod Log
 pub mod Opening
+pub mod Said
 pub mod Stands
 pub mod Steps

@@ -1,5 +1,5 @@
 -- The list as records of a keeper, and what records are read as.
-use Rattle.std.specs.Prelude.{◌≡◌, ◌⊎◌, ℕ, ◌+◌, List, [], ◌∷◌, ◌++◌, length, Option, Some}
+use Rattle.std.specs.Prelude.{◌≡◌, ℕ, ◌+◌, List, [], ◌∷◌, length, Option, Some}
 use Rattle.news_types.specs.declared.entry.Entry.{Entry}
 use Rattle.news_types.specs.Names.{Bytes}
 use Rattle.news_types.specs.History.{History}

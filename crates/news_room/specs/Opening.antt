@@ -1,5 +1,5 @@
 -- What opening a room from records answers.
-use Rattle.std.specs.Prelude.{◌≡◌, ◌⊎◌, ℕ, ◌+◌, Bool, true, List, ◌∷◌, ◌++◌, map, slice_get, Option, Some, Result, Ok, Err}
+use Rattle.std.specs.Prelude.{◌≡◌, ◌⊎◌, ℕ, ◌+◌, Bool, true, false, List, ◌∷◌, ◌++◌, map, slice_get, Option, Some, Result, Ok, Err}
 use Rattle.news_types.specs.declared.entry.Entry.{Entry}
 use Rattle.news_types.specs.Names.{Bytes}
 use Rattle.news_types.specs.History.{History}
@@ -19,7 +19,12 @@ use Rattle.news_io.specs.Keeper.{KeeperMeaning}
 abbrev pub bytes_of : Record → Bytes
 bytes_of r = r.bytes
 
--- the payload is no entry: the place of the first byte that no entry goes on with, in a log whose record begins there
+-- damage in a file, which is the side or the log
+abbrev pub damaged_in : Bool → ℕ → Option ℕ → RoomFault
+damaged_in true at found = RoomFault.DamagedSide at found
+damaged_in false at found = RoomFault.Damaged at found
+
+-- the payload is no entry: the place of the first byte that no entry goes on with, in a file whose record begins there
 pub record IsNoEntry (r : Record) (at : ℕ) (found : Option ℕ) : Type 0 where
   pub place : ℕ
   pub fault : IsFaultAt entry_bytes IsEntry r.bytes place
@@ -38,18 +43,20 @@ pub record IsUnlawful (h : History) (r : Record) (at : ℕ) (found : Option ℕ)
 abbrev pub IsDamage : History → Record → ℕ → Option ℕ → Type 0
 IsDamage h r at found = IsNoEntry r at found ⊎ IsUnlawful h r at found
 
--- the first record that is damaged
-pub record IsDamaged (records : List Record) (at : ℕ) (found : Option ℕ) : Type 0 where
+-- the first record that is damaged is one of the side, or one of the log
+pub record IsDamaged (records : List Record) (side : Bool) (at : ℕ) (found : Option ℕ) : Type 0 where
   pub before : List Record
   pub here : Record
   pub after : List Record
   pub are : records ≡ before ++ here ∷ after
   pub list : History
   pub opens : OpensTo (map bytes_of before) list
+  pub file_is : here.side ≡ side
   pub damage : IsDamage list here at found
 
 abbrev pub IsFault : List Record → RoomFault → Type 0
-IsFault records (RoomFault.Damaged at found) = IsDamaged records at found
+IsFault records (RoomFault.Damaged at found) = IsDamaged records false at found
+IsFault records (RoomFault.DamagedSide at found) = IsDamaged records true at found
 IsFault records RoomFault.Memory = Unit {0}
 
 -- the machine stands for the list of these records
@@ -60,19 +67,21 @@ pub record HasRead (n : Newsroom) (records : List Bytes) (h : History) : Type 0 
 -- what one more record is to a machine that stands for a list
 abbrev pub Takes : Newsroom → History → Record → Result (Unit {0}) RoomFault → Type 0
 Takes n h r (Ok u) = (e : Entry) × (r.bytes ≡ entry_bytes e) × IsStored (e ∷ h) × StandsFor n (e ∷ h)
-Takes n h r (Err (RoomFault.Damaged at found)) = IsDamage h r at found
+Takes n h r (Err (RoomFault.Damaged at found)) = (r.side ≡ false) × IsDamage h r at found
+Takes n h r (Err (RoomFault.DamagedSide at found)) = (r.side ≡ true) × IsDamage h r at found
 Takes n h r (Err RoomFault.Memory) = Unit {0}
 
--- what an entry is to a machine that stands for a list: its record's gate is there, where it may not follow
-pub record IsRefused (h : History) (gate : ℕ) (e : Entry) (at : ℕ) (found : Option ℕ) : Type 0 where
+-- what the entry of a record is to a machine that stands for a list: the record's gate is there, where it may not follow
+pub record IsRefused (h : History) (r : Record) (e : Entry) (at : ℕ) (found : Option ℕ) : Type 0 where
   pub unlawful : IsLegal (e ∷ h) → ⊥
-  pub at_is : at ≡ gate
+  pub at_is : at ≡ r.at
   pub found_is : found ≡ Some 1
 
-abbrev pub Keeps : Newsroom → History → ℕ → Entry → Result (Unit {0}) RoomFault → Type 0
-Keeps n h gate e (Ok u) = IsLegal (e ∷ h) × StandsFor n (e ∷ h)
-Keeps n h gate e (Err (RoomFault.Damaged at found)) = IsRefused h gate e at found
-Keeps n h gate e (Err RoomFault.Memory) = Unit {0}
+abbrev pub Keeps : Newsroom → History → Record → Entry → Result (Unit {0}) RoomFault → Type 0
+Keeps n h r e (Ok u) = IsLegal (e ∷ h) × StandsFor n (e ∷ h)
+Keeps n h r e (Err (RoomFault.Damaged at found)) = (r.side ≡ false) × IsRefused h r e at found
+Keeps n h r e (Err (RoomFault.DamagedSide at found)) = (r.side ≡ true) × IsRefused h r e at found
+Keeps n h r e (Err RoomFault.Memory) = Unit {0}
 
 -- what the records are to a machine
 abbrev pub Reads : List Record → Result Newsroom RoomFault → Type 0
@@ -85,7 +94,7 @@ module _ {K : Type 0} (keeper : KeeperMeaning K) where
     pub keeper_is : r.keeper ≡ k
     pub history : History
     pub opens : OpensTo (map bytes_of records) history
-    pub stands : (told : Bool) → (told ≡ true → Tells keeper k history) → Stands keeper r (record { store = store; told = told; list = history })
+    pub stands : (told : Bool) → (told ≡ true → Tells keeper k store history) → Stands keeper r (record { store = store; told = told; list = history })
 
   abbrev pub Opened : K → Bytes → List Record → Result (Room K) (K × RoomFault) → Type 0
   Opened k store records (Ok r) = IsOpened k store records r

@@ -1,12 +1,12 @@
 -- What a room stands for.
-use Rattle.std.specs.Prelude.{◌≡◌, ℕ, ◌+◌, ◌≤◌, min, true, List, ◌∷◌, length}
+use Rattle.std.specs.Prelude.{◌≡◌, ℕ, ◌+◌, ◌≤◌, min, true, ◌∷◌, length}
 use Rattle.news_types.specs.declared.entry.Entry.{Entry}
 use Rattle.news_types.specs.Names.{Bytes}
 use Rattle.news_types.specs.History.{History}
 use Rattle.news_types.specs.Books.{Book}
 use Rattle.entry_codec.specs.Spelling.{entry_bytes}
 use Rattle.entry_codec.specs.Formed.{IsEntry}
-use Rattle.newsroom.specs.Stands.{StandsFor}
+use Rattle.newsroom.specs.Stands.{StandsFor, store_of}
 use Rattle.news_types.specs.Doubt.{payloads}
 use Rattle.news_room.specs.Log.{IsStored}
 use Rattle.news_room.specs.Beside.{Beside, beside}
@@ -25,19 +25,20 @@ abbrev pub MayFollow : History → Bytes → Type 0
 MayFollow h payload = (e : Entry) × (payload ≡ entry_bytes e) × IsStored (e ∷ h)
 
 module _ {K : Type 0} (keeper : KeeperMeaning K) where
-  -- the keeper tells its list, and that is the list's records
-  pub record Tells (k : K) (h : History) : Type 0 where
+  -- the keeper tells its list, and that is the records of the store's list
+  pub record Tells (k : K) (store : Bytes) (h : History) : Type 0 where
     pub tells_it : keeper.tells k
+    pub label_is : keeper.label k ≡ store
     pub list_is : keeper.list k ≡ payloads entry_bytes h
     pub follow : (payload : Bytes) → keeper.doubts k payload → MayFollow h payload
 
   -- the room stands for the book; where it is told, the keeper's list is that of the book
   pub record Stands (r : Room K) (b : Book) : Type 0 where
-    pub store_is : r.store ≡ b.store
+    pub store_is : store_of r.machine ≡ b.store
     pub machine_for : StandsFor r.machine b.list
     pub kept : IsStored b.list
     pub few : length b.list ≤ 2147483648 + min (keeper.used r.keeper) LAST
-    pub told : b.told ≡ true → Tells r.keeper b.list
+    pub told : b.told ≡ true → Tells r.keeper b.store b.list
 
   abbrev pub SomeBook : Room K → Type 0
   SomeBook r = (b : Book) × Stands r b

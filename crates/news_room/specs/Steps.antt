@@ -2,6 +2,7 @@
 use Rattle.std.specs.Prelude.{◌≡◌, ◌⊎◌, Bool, true, false, ℕ, ◌+◌, ◌<◌, ◌≤◌, List, [], ◌∷◌, ◌++◌, length, Option, Some, None, Result, Ok, Err}
 use Rattle.news_types.specs.declared.entry.Entry.{Entry}
 use Rattle.news_types.specs.declared.command.Command.{Command}
+use Rattle.news_types.specs.declared.story.Incoming.{Incoming}
 use Rattle.news_types.specs.Names.{Bytes}
 use Rattle.news_types.specs.History.{History, moment_at}
 use Rattle.news_types.specs.Books.{Book, onto}
@@ -10,7 +11,7 @@ use Rattle.news_types.specs.declared.entry.Act.TheVariants.{Halt, Ingest, Reques
 use Rattle.news_types.specs.Legal.{IsLegal, some_waits}
 use Rattle.news_types.specs.Calls as call
 use Rattle.news_types.specs.Calls.{follow}
-use Rattle.news_types.specs.Outcome.{Outcome, Done, Repeat, Denied, reply_to, entry_of, kept, request, request_at, ingest_at, receipt}
+use Rattle.news_types.specs.Outcome.{Outcome, Done, Repeat, Denied, reply_to, entry_of, kept, request, request_at, ingest, ingest_at, receipt}
 use Rattle.news_types.specs.Outcome as outcome
 use Rattle.news_io.specs.Faults.{Rose}
 use Rattle.news_io.specs.Left.{Between}
@@ -18,6 +19,7 @@ use Rattle.entry_codec.specs.Spelling.{entry_bytes}
 use Rattle.entry_codec.specs.Formed.{IsEntry}
 use Rattle.news_room.specs.Log.{size_of, sizes, Opens}
 use Rattle.news_room.specs.Beside.{Beside}
+use Rattle.news_room.specs.Said.{said, said_kept, said_tick, is_failure}
 use Rattle.news_room.specs.Stands.{Stands, LIMIT, LAST, numbers, in_doubt}
 use Rattle.news_io.specs.declared.keeper.AppendFault.{AppendFault}
 use Rattle.news_room.specs.declared.answers.Answered.{Answered}
@@ -93,7 +95,7 @@ KeepStep n b e more (Answered.Full size count) = Refused n LIMIT (e ∷ []) more
 KeepStep n b e more Answered.Memory = Whole n [] more
 KeepStep n b e more _ = ⊥
 
--- ---- requests
+-- ---- requests and ingests
 
 -- an outcome, by what was answered
 module _ (n : Beside) (more : List Entry) (o : Outcome outcome.Answered) where
@@ -108,6 +110,10 @@ module _ (n : Beside) (more : List Entry) (o : Outcome outcome.Answered) where
 -- a request of a caller at a reading of the clock
 abbrev pub RequestStep : Beside → Book → ℕ → Bytes → ℕ → Command → List Entry → Answered → Type 0
 RequestStep n b now caller number command more answered = Answers n more (request b.list caller number command now) answered
+
+-- a story that comes in from a provider
+abbrev pub IngestStep : Beside → Book → ℕ → Bytes → Incoming → List Entry → Answered → Type 0
+IngestStep n b now provider come more answered = Answers n more (ingest b.list provider come now) answered
 
 -- ---- receipts
 
@@ -183,16 +189,13 @@ module _ {K : Type 0} (keeper : KeeperMeaning K) where
 
 -- the answers that a failure of the keeper has
 abbrev pub is_fault : Answered → Bool
-is_fault Answered.Fault = true
-is_fault _ = false
+is_fault answered = is_failure (said answered)
 
 abbrev pub is_kept_fault : Kept → Bool
-is_kept_fault Kept.Fault = true
-is_kept_fault _ = false
+is_kept_fault kept = is_failure (said_kept kept)
 
 abbrev pub is_tick_fault : Ticked → Bool
-is_tick_fault Ticked.Fault = true
-is_tick_fault _ = false
+is_tick_fault ticked = is_failure (said_tick ticked)
 
 -- what is answered where the entry was not kept
 abbrev pub ticked_by : AppendFault → Ticked

@@ -1,13 +1,14 @@
 //! The acts of the server itself: ticks, halts and receipts. None of them takes memory.
-ghost use Rattle.std.specs.Prelude.{◌≡◌, ℕ, ◌≤◌, ◌<◌, ◌∷◌, [], List, length, true};
+ghost use Rattle.std.specs.Prelude.{◌≡◌, ℕ, ◌≤◌, ◌<◌, ◌∷◌, [], List, length};
 ghost use Rattle.news_types.specs.declared.entry.Entry.{Entry};
 ghost use Rattle.news_room.specs.Steps.{ticked_by, kept_by};
-ghost use Rattle.news_types.specs.declared.entry.Act.TheVariants.{Advance, Halt, Receipt};
+ghost use Rattle.news_types.specs.declared.entry.Act.TheVariants.{Advance, Receipt};
 ghost use Rattle.news_types.specs.History.{History, moment as last_moment, moment_at};
-ghost use Rattle.news_types.specs.Books.{Book, onto};
+ghost use Rattle.news_types.specs.Books.{Book};
+ghost use Rattle.news_types.specs.Calls as call;
 ghost use Rattle.news_types.specs.Feeds.{feed};
 ghost use Rattle.news_types.specs.Delivery.{acked};
-ghost use Rattle.news_types.specs.Outcome.{entry_of, kept, receipt};
+ghost use Rattle.news_types.specs.Outcome.{entry_of, kept};
 
 use crate::answers::{Kept, Ticked};
 use crate::room::{LIMIT, Room};
@@ -23,7 +24,9 @@ impl<K: Keeper> Room<K> {
     ghost use Rattle.newsroom.specs.Acts.{IsSmall};
     ghost use Rattle.news_room.specs.Appends.{SmallStep};
     ghost use Rattle.news_room.specs.Stands.{Stands, SomeBook, numbers};
-    ghost use Rattle.news_room.specs.Steps.{Puts, Receives, ReceiptStep, ReleaseStep, TickStep, HaltStep, tick_entries, entries, is_append_fault, is_kept_fault, is_tick_fault, ToldStep, After};
+    ghost use Rattle.news_room.specs.Said.{said_kept, said_tick};
+    ghost use Rattle.news_room.specs.Steps.{Puts, Receives, ReceiptStep, ReleaseStep, TickStep, HaltStep, tick_entries, is_append_fault, is_kept_fault, After};
+    ghost use Rattle.news_room.specs.Events.{Happens};
 
     // Gives the record of one of these acts to the keeper.
     fn append_small(&mut self, entry: &Entry, limit: u64) -> Result<(), AppendFault>
@@ -32,7 +35,6 @@ impl<K: Keeper> Room<K> {
         requires limit { limit ≤ 1073741824 }
         ensures step { SmallStep K.keeper self.old.keeper self.new.keeper limit entry.now result }
         ensures machine { self.new.machine ≡ self.old.machine }
-        ensures store { self.new.store ≡ self.old.store }
     {
         let record = encode_small(entry);
         self.keeper.append(record.as_slice(), limit)
@@ -97,8 +99,8 @@ impl<K: Keeper> Room<K> {
     pub fn tick(&mut self, now: u64) -> Ticked
         requires stands { SomeBook K.keeper self.old }
         ensures { (more : List Entry) × ((b : Book) → Stands K.keeper self.old b
-            → Stands K.keeper self.new (onto more b) × TickStep (numbers K.keeper self.old self.new) b now more result
-            × (b.told ≡ true → ToldStep K.keeper self.old self.new b (tick_entries b.list (moment_at b.list now)) more (is_tick_fault result))) }
+            → Happens K.keeper self.old self.new b more call.Ticked now (said_tick result)
+            (TickStep (numbers K.keeper self.old self.new) b now more result)) }
     {
         let moment = self.moment_at(now);
         match self.release(moment) {
@@ -116,8 +118,8 @@ impl<K: Keeper> Room<K> {
     pub fn halt(&mut self, now: u64) -> Ticked
         requires stands { SomeBook K.keeper self.old }
         ensures { (more : List Entry) × ((b : Book) → Stands K.keeper self.old b
-            → Stands K.keeper self.new (onto more b) × HaltStep (numbers K.keeper self.old self.new) b now more result
-            × (b.told ≡ true → ToldStep K.keeper self.old self.new b (entry_of (moment_at b.list now) Halt ∷ []) more (is_tick_fault result))) }
+            → Happens K.keeper self.old self.new b more call.Halted now (said_tick result)
+            (HaltStep (numbers K.keeper self.old self.new) b now more result)) }
     {
         let entry = Entry {
             moment: self.moment_at(now),
@@ -138,8 +140,8 @@ impl<K: Keeper> Room<K> {
     pub fn receipt(&mut self, now: u64, subscriber: Name, n: u32) -> Kept
         requires stands { SomeBook K.keeper self.old }
         ensures { (more : List Entry) × ((b : Book) → Stands K.keeper self.old b
-            → Stands K.keeper self.new (onto more b) × ReceiptStep (numbers K.keeper self.old self.new) b now subscriber n more result
-            × (b.told ≡ true → ToldStep K.keeper self.old self.new b (entries (receipt b.list subscriber n now).more) more (is_kept_fault result))) }
+            → Happens K.keeper self.old self.new b more (call.Receipted subscriber n) now (said_kept result)
+            (ReceiptStep (numbers K.keeper self.old self.new) b now subscriber n more result)) }
     {
         match self.machine.judge_receipt(&subscriber, n) {
             Ok(true) => self.raise(now, subscriber, n),

@@ -68,10 +68,17 @@ pub enum Ticked {
 /// Why records open to no room.
 #[derive(Clone, Copy, Debug, PartialEq, Eq)]
 pub enum RoomFault {
-    /// A record is no entry, or its entry is not one that may follow those before it.
+    /// A record of the log is no entry, or its entry is not one that may follow those before it.
     Damaged {
         /// The place in the log: of the first byte that no entry goes on with, or of the record's gate where the entry
         /// may not follow.
+        at: u64,
+        /// The byte that stands there, or nothing where the payload ends too soon.
+        found: Option<u8>,
+    },
+    /// The same of a record of the side.
+    DamagedSide {
+        /// The place in the side, likewise.
         at: u64,
         /// The byte that stands there, or nothing where the payload ends too soon.
         found: Option<u8>,

@@ -1,11 +1,10 @@
 //! A room is opened from the records of its keeper.
-ghost use Rattle.std.specs.Prelude.{◌≡◌, ◌<◌, ◌+◌, length, All, slice_get, Some};
+ghost use Rattle.std.specs.Prelude.{◌≡◌, ◌<◌, ◌+◌, length, All, IfOk, slice_get, Some};
 ghost use Rattle.news_types.specs.History.{History};
-ghost use Rattle.newsroom.specs.Stands.{StandsFor};
+ghost use Rattle.newsroom.specs.Stands.{StandsFor, store_of};
 ghost use Rattle.newsroom.specs.Acts.{IsSmall};
 ghost use Rattle.news_room.specs.Log.{IsStored};
-ghost use Rattle.news_room.specs.declared.answers.RoomFault.{RoomFault};
-ghost use Rattle.news_room.specs.Opening.{Takes, Keeps, Reads, Opened};
+ghost use Rattle.news_room.specs.Opening.{damaged_in, Takes, Keeps, Reads, Opened};
 
 use crate::answers::RoomFault;
 use crate::room::Room;
@@ -17,10 +16,11 @@ use std::alloc::Global;
 use uuid::Uuid;
 
 impl<K: Keeper> Room<K> {
-    /// Opens a room of this store over a keeper whose records these are, in order, each with its place in the log.
+    /// Opens a room of this store over a keeper whose records these are, in order, each with its place in the log or in
+    /// the side.
     ///
     /// The keeper comes back beside a fault. Damage is told of the first record that is no entry, or whose entry may not
-    /// follow those before it.
+    /// follow those before it, and in the file that this record is of.
     pub fn open(
         alloc: Global,
         keeper: K,
@@ -35,7 +35,6 @@ impl<K: Keeper> Room<K> {
             Ok(machine) => Ok(Room {
                 alloc,
                 keeper,
-                store,
                 machine,
             }),
             Err(fault) => Err((keeper, fault)),
@@ -47,7 +46,8 @@ impl<K: Keeper> Room<K> {
 fn read(alloc: Global, store: Uuid, records: &[Record]) -> Result<Newsroom, RoomFault>
     requires few { length records.now < 2147483648 }
     requires places { All (λ r. r.at < 4294967296) records.now }
-    ensures { Reads records.now result }
+    ensures reads { Reads records.now result }
+    ensures store { IfOk result (λ machine. store_of machine ≡ store) }
 {
     let Ok(mut machine) = Newsroom::new(alloc, store) else {
         return Err(RoomFault::Memory);
@@ -62,11 +62,12 @@ fn read(alloc: Global, store: Uuid, records: &[Record]) -> Result<Newsroom, Room
 fn take(machine: &mut Newsroom, alloc: Global, here: &Record) -> Result<(), RoomFault>
     requires stands { (h : History) × (StandsFor machine.old h × (length h < 2147483648)) }
     requires place { here.now.at < 4294967296 }
-    ensures { (h : History) → StandsFor machine.old h → IsStored h → Takes machine.new h here.now result }
+    ensures takes { (h : History) → StandsFor machine.old h → IsStored h → Takes machine.new h here.now result }
+    ensures store { store_of machine.new ≡ store_of machine.old }
 {
     match decode(alloc, here.bytes.as_slice()) {
         Ok(entry) => {
-            let kept = keep(machine, here.at, &entry);
+            let kept = keep(machine, here, &entry);
             drop(entry);
             kept
         }
@@ -75,48 +76,55 @@ fn take(machine: &mut Newsroom, alloc: Global, here: &Record) -> Result<(), Room
     }
 }
 
+// Damage at a place of the file that a record is of.
+fn damage(here: &Record, at: u64, found: Option<u8>) -> RoomFault
+    ensures { result ≡ damaged_in here.now.side at found }
+{
+    if here.side {
+        return RoomFault::DamagedSide { at, found };
+    }
+    RoomFault::Damaged { at, found }
+}
+
 // Where the payload is no entry.
 fn no_entry(here: &Record, place: u64) -> RoomFault
     requires at { here.now.at < 4294967296 }
     requires place { place < 9223372036854775808 }
-    ensures { result ≡ RoomFault.Damaged (here.now.at + 5 + place) (slice_get here.now.bytes place) }
+    ensures { result ≡ damaged_in here.now.side (here.now.at + 5 + place) (slice_get here.now.bytes place) }
 {
-    RoomFault::Damaged {
-        at: here.at + 5 + place,
-        found: here.bytes.as_slice().get(place as usize).copied(),
-    }
+    let found = here.bytes.as_slice().get(place as usize).copied();
+    damage(here, here.at + 5 + place, found)
 }
 
-// Keeps an entry, where it may follow.
-fn keep(machine: &mut Newsroom, gate: u64, entry: &Entry) -> Result<(), RoomFault>
+// Keeps the entry of a record, where it may follow.
+fn keep(machine: &mut Newsroom, here: &Record, entry: &Entry) -> Result<(), RoomFault>
     requires stands { (h : History) × (StandsFor machine.old h × (length h < 2147483648)) }
     requires early { entry.now.moment < 253402300800 }
-    ensures { (h : History) → StandsFor machine.old h → Keeps machine.new h gate entry.now result }
+    ensures keeps { (h : History) → StandsFor machine.old h → Keeps machine.new h here.now entry.now result }
+    ensures store { store_of machine.new ≡ store_of machine.old }
 {
     match &entry.act {
-        Act::Request { .. } | Act::Ingest { .. } => keep_large(machine, gate, entry),
-        _ => keep_small(machine, gate, entry),
+        Act::Request { .. } | Act::Ingest { .. } => keep_large(machine, here, entry),
+        _ => keep_small(machine, here, entry),
     }
 }
 
 // Where an entry may not follow: its record's gate, which is 1.
-fn unlawful(gate: u64) -> RoomFault
-    ensures { result ≡ RoomFault.Damaged gate (Some 1) }
+fn unlawful(here: &Record) -> RoomFault
+    ensures { result ≡ damaged_in here.now.side here.now.at (Some 1) }
 {
-    RoomFault::Damaged {
-        at: gate,
-        found: Some(1),
-    }
+    damage(here, here.at, Some(1))
 }
 
 // Keeps a request or an ingest, where it may follow.
-fn keep_large(machine: &mut Newsroom, gate: u64, entry: &Entry) -> Result<(), RoomFault>
+fn keep_large(machine: &mut Newsroom, here: &Record, entry: &Entry) -> Result<(), RoomFault>
     requires stands { (h : History) × (StandsFor machine.old h × (length h < 2147483648)) }
     requires large { IsSmall entry.now.act → ⊥ }
-    ensures { (h : History) → StandsFor machine.old h → Keeps machine.new h gate entry.now result }
+    ensures keeps { (h : History) → StandsFor machine.old h → Keeps machine.new h here.now entry.now result }
+    ensures store { store_of machine.new ≡ store_of machine.old }
 {
     if entry.moment < machine.moment() {
-        return Err(unlawful(gate));
+        return Err(unlawful(here));
     }
     match machine.prepare(&entry.act, entry.moment) {
         Prepared::Change(change) => {
@@ -124,19 +132,20 @@ fn keep_large(machine: &mut Newsroom, gate: u64, entry: &Entry) -> Result<(), Ro
             Ok(())
         }
         Prepared::Memory => Err(RoomFault::Memory),
-        Prepared::Settled(_) | Prepared::Repeat(_) | Prepared::Denied(_) => Err(unlawful(gate)),
+        Prepared::Settled(_) | Prepared::Repeat(_) | Prepared::Denied(_) => Err(unlawful(here)),
     }
 }
 
 // Keeps one of the other acts, where it may follow. It takes no memory.
-fn keep_small(machine: &mut Newsroom, gate: u64, entry: &Entry) -> Result<(), RoomFault>
+fn keep_small(machine: &mut Newsroom, here: &Record, entry: &Entry) -> Result<(), RoomFault>
     requires stands { (h : History) × (StandsFor machine.old h × (length h < 2147483648)) }
     requires small { IsSmall entry.now.act }
     requires early { entry.now.moment < 253402300800 }
-    ensures { (h : History) → StandsFor machine.old h → Keeps machine.new h gate entry.now result }
+    ensures keeps { (h : History) → StandsFor machine.old h → Keeps machine.new h here.now entry.now result }
+    ensures store { store_of machine.new ≡ store_of machine.old }
 {
     if !machine.legal(&entry.act, entry.moment) {
-        return Err(unlawful(gate));
+        return Err(unlawful(here));
     }
     machine.apply(&entry.act, entry.moment);
     Ok(())

@@ -1,19 +1,20 @@
 //! The room.
-ghost use Rattle.std.specs.Prelude.{◌≡◌, ℕ, ◌≤◌, ◌∷◌, [], List, IfOk, length, true};
+ghost use Rattle.std.specs.Prelude.{◌≡◌, ℕ, ◌≤◌, ◌∷◌, [], List, IfOk, length, false};
 ghost use Rattle.news_types.specs.declared.entry.Entry.{Entry};
 ghost use Rattle.news_types.specs.Names.{Bytes};
 ghost use Rattle.news_types.specs.History.{History, moment, moment_at, last_stop};
-ghost use Rattle.news_types.specs.Books.{Book, onto};
-ghost use Rattle.news_types.specs.Outcome.{request};
+ghost use Rattle.news_types.specs.Books.{Book};
+ghost use Rattle.news_types.specs.Calls.{Asked, Ingested, Requested};
 ghost use Rattle.news_types.specs.Answers.{query_answer};
+ghost use Rattle.news_types.specs.Frames.{frame_bytes_at};
+ghost use Rattle.feed_frames.specs.Writer.{the_writer};
 
 use crate::answers::Answered;
 use entry_codec::encode;
 use news_io::{AppendFault, Keeper};
-use news_types::{Act, Answer, Command, Entry, Memory, Moment, Name, Query};
+use news_types::{Act, Answer, Command, Entry, Incoming, Memory, Moment, Name, Query, StandsFor};
 use newsroom::{Change, Newsroom, Prepared};
 use std::alloc::Global;
-use uuid::Uuid;
 
 /// How many bytes of the log requests may use: what is left above is for the last halt.
 pub(crate) const LIMIT: u64 = 1073737728;
@@ -26,19 +27,21 @@ const LAST_MOMENT: Moment = 253402300799;
 pub struct Room<K> {
     pub(crate) alloc: Global,
     pub(crate) keeper: K,
-    pub(crate) store: Uuid,
     pub(crate) machine: Newsroom,
 }
 
 impl<K: Keeper> Room<K> {
     ghost use Rattle.entry_codec.specs.Fits.{Fits};
+    ghost use Rattle.news_types.specs.Fits.{FitsIncoming};
     ghost use Rattle.news_types.specs.FitsCommands.{FitsCommand};
-    ghost use Rattle.newsroom.specs.Asking.{IsBuiltQuery};
+    ghost use Rattle.newsroom.specs.Asking.{asks_frame};
     ghost use Rattle.newsroom.specs.Acts.{IsSmall};
     ghost use Rattle.newsroom.specs.Changes.{HasMemory, IsFor};
     ghost use Rattle.news_room.specs.Appends.{AppendStep};
     ghost use Rattle.news_room.specs.Stands.{Stands, SomeBook, numbers};
-    ghost use Rattle.news_room.specs.Steps.{RequestStep, KeepStep, Answers, outcome_of, entries, is_fault, ToldStep, After};
+    ghost use Rattle.news_room.specs.Said.{said, said_told};
+    ghost use Rattle.news_room.specs.Steps.{RequestStep, IngestStep, KeepStep, Answers, outcome_of, entries, is_fault, After};
+    ghost use Rattle.news_room.specs.Events.{IsEvent, Happens};
 
     /// The number of entries.
     pub fn front(&self) -> u64
@@ -80,7 +83,6 @@ impl<K: Keeper> Room<K> {
         requires fits { Fits entry.now }
         ensures step { AppendStep K.keeper self.old.keeper self.new.keeper entry.now result }
         ensures machine { self.new.machine ≡ self.old.machine }
-        ensures store { self.new.store ≡ self.old.store }
     {
         let Ok(bytes) = encode(self.alloc, entry) else {
             return Err(Answered::Memory);
@@ -136,8 +138,8 @@ impl<K: Keeper> Room<K> {
         requires stands { SomeBook K.keeper self.old }
         requires fits { FitsCommand command }
         ensures { (more : List Entry) × ((b : Book) → Stands K.keeper self.old b
-            → Stands K.keeper self.new (onto more b) × RequestStep (numbers K.keeper self.old self.new) b now caller number command more result
-            × (b.told ≡ true → ToldStep K.keeper self.old self.new b (entries (request b.list caller number command now).more) more (is_fault result))) }
+            → Happens K.keeper self.old self.new b more (Requested caller number command) now (said result)
+            (RequestStep (numbers K.keeper self.old self.new) b now caller number command more result)) }
     {
         let entry = Entry {
             moment: self.moment_at(now),
@@ -152,15 +154,48 @@ impl<K: Keeper> Room<K> {
         answered
     }
 
+    /// Takes a story that comes in from a provider, at a reading of the clock, in seconds.
+    ///
+    /// It is answered and kept as a request is. A story that is known already is done, and keeps no entry.
+    pub fn ingest(&mut self, now: u64, provider: Name, incoming: Incoming) -> Answered
+        requires stands { SomeBook K.keeper self.old }
+        requires fits { FitsIncoming incoming }
+        ensures { (more : List Entry) × ((b : Book) → Stands K.keeper self.old b
+            → Happens K.keeper self.old self.new b more (Ingested provider incoming) now (said result)
+            (IngestStep (numbers K.keeper self.old self.new) b now provider incoming more result)) }
+    {
+        let moment = self.moment_at(now);
+        let entry = Entry {
+            moment,
+            act: Act::Ingest { provider, incoming },
+        };
+        let answered = self.decide(&entry);
+        drop(entry);
+        answered
+    }
+
     /// Answers a question on the list as it is.
     pub fn ask(&self, query: &Query) -> Result<Answer, Memory>
         requires stands { SomeBook K.keeper self.now }
-        requires built { IsBuiltQuery query.now }
-        ensures { IfOk result (λ told. (b : Book) (frame : Bytes → ℕ → Bytes) → Stands K.keeper self.now b → told ≡ query_answer frame b.list query.now) }
+        ensures answer { IfOk result (λ told. (b : Book) → Stands K.keeper self.now b → told ≡ query_answer (frame_bytes_at (the_writer b.store) b.list) b.list query.now) }
+        // only a question for a frame asks how frames are written
+        ensures plain { asks_frame query.now ≡ false → IfOk result (λ told. (b : Book) (frame : Bytes → ℕ → Bytes) → Stands K.keeper self.now b → told ≡ query_answer frame b.list query.now) }
+        ensures event { (b : Book) (now : ℕ) → Stands K.keeper self.now b → IsEvent K.keeper self.now self.now b [] (Asked query.now) now (said_told result) }
     {
         self.machine.ask(query)
     }
 }
 
-#[cfg(test)]
-mod tests;
+impl<K: Keeper> StandsFor for Room<K> {
+    ghost use Rattle.news_room.specs.Stands.{Stands};
+
+    ghost stands = { λ room b. Stands K.keeper room b };
+
+    ghost faults = { λ room. K.keeper.faults room.keeper };
+
+    ghost used = { λ room. K.keeper.used room.keeper };
+
+    fn count(&self) -> u64 {
+        self.front()
+    }
+}

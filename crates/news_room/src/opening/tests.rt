@@ -20,15 +20,11 @@ const NO_ACT: &[u8] =
 const FLASHED: &[u8] =
     b"\0\0\0\0\0\0\x03\xe8\x06\x05admin\0\0\0\0\0\0\0\x02\x12\0\x03\0\0\0\x04fire\0\0\0\x04Fire\0\0\0\0\0\0\0\x02en\0\0\0\0\0\0\0\x06Smoke.\0\0\0";
 
-fn record(alloc: Global, at: u64, payload: &[u8]) -> Result<Record, Fail>
+fn record(alloc: Global, side: bool, at: u64, payload: &[u8]) -> Result<Record, Fail>
     ensures { IfOk result (λ r. r.at ≡ at) }
 {
     match Bytes::copy_of(alloc, payload) {
-        Ok(bytes) => Ok(Record {
-            at,
-            side: false,
-            bytes,
-        }),
+        Ok(bytes) => Ok(Record { at, side, bytes }),
         Err(_) => Err(Fail::new("no memory")),
     }
 }
@@ -51,12 +47,32 @@ fn both_open_to(
     first: &[u8],
     second: &[u8],
 ) -> Result<Result<u64, RoomFault>, Fail> {
-    let records = [record(alloc, 64, first)?, record(alloc, 106, second)?];
+    let records = [
+        record(alloc, false, 64, first)?,
+        record(alloc, false, 106, second)?,
+    ];
+    opens_to(alloc, &records)
+}
+
+/// The same where the first record is of the side.
+fn side_and_log_open_to(
+    alloc: Global,
+    first: &[u8],
+    second: &[u8],
+) -> Result<Result<u64, RoomFault>, Fail> {
+    let records = [
+        record(alloc, true, 64, first)?,
+        record(alloc, false, 64, second)?,
+    ];
     opens_to(alloc, &records)
 }
 
 fn damaged(at: u64, found: Option<u8>) -> Result<u64, RoomFault> {
     Err(RoomFault::Damaged { at, found })
+}
+
+fn damaged_side(at: u64, found: Option<u8>) -> Result<u64, RoomFault> {
+    Err(RoomFault::DamagedSide { at, found })
 }
 
 /// The first record that is no entry, or whose entry may not follow, is where the records are damaged.
@@ -73,6 +89,23 @@ fn opens_or_tells_the_damage(rt: HostRuntime) -> Result<(), Fail> {
     ];
     for (first, second, want) in rows {
         let opened = both_open_to(alloc, first, second)?;
+        assert_eq!(rt; opened, want, "at {want:?}");
+    }
+    Ok(())
+}
+
+/// Damage is told of the file that the record is of.
+#[test]
+fn tells_which_file_is_damaged(rt: HostRuntime) -> Result<(), Fail> {
+    let alloc = rt.alloc();
+    let rows: [(&[u8], &[u8], Result<u64, RoomFault>); 4] = [
+        (ADDED, FLASHED, Ok(2)),
+        (ADDED, ADDED, damaged(64, Some(1))),
+        (FLASHED, ADDED, damaged_side(64, Some(1))),
+        (NO_ACT, FLASHED, damaged_side(77, Some(9))),
+    ];
+    for (first, second, want) in rows {
+        let opened = side_and_log_open_to(alloc, first, second)?;
         assert_eq!(rt; opened, want, "at {want:?}");
     }
     Ok(())

@@ -16,10 +16,10 @@ no_entry-requires-clause-place c =
     let wrong : IsFaultAt entry_bytes IsEntry c.as_slice.result.now c.in-Err-At.at = rw c.in-Err-At.field-0-is at c.in-Err-At.ensures.fault c.in-Err-At.at refl in
     omega (arith, wrong.within, c.as_slice.type_inv.1)
 
-pub returns-in-Ok : goal.returns-in-Ok
-returns-in-Ok c =
-    λ h is before. entry_told _ h c.args.here.now c.as_slice.result.now c.in-Ok.entry c.keep-kept.result c.as_slice.ensures c.in-Ok.ensures.found.0 c.in-Ok.ensures.found.1 before (c.keep-kept.ensures h is)
+pub returns-in-Ok-clause-takes : goal.returns-in-Ok-clause-takes
+returns-in-Ok-clause-takes c =
+    λ h is before. entry_told _ h c.args.here.now c.as_slice.result.now c.in-Ok.entry c.keep-kept.result c.as_slice.ensures c.in-Ok.ensures.found.0 c.in-Ok.ensures.found.1 before (c.keep-kept.ensures.keeps h is)
 
-pub returns-in-Err-At : goal.returns-in-Err-At
-returns-in-Err-At c =
+pub returns-in-Err-At-clause-takes : goal.returns-in-Err-At-clause-takes
+returns-in-Err-At-clause-takes c =
     λ h is before. no_entry_told c.args.machine.now h c.args.here.now c.as_slice.result.now c.in-Err-At.at c.no_entry.result c.as_slice.ensures (rw c.in-Err-At.field-0-is at c.in-Err-At.ensures.fault c.in-Err-At.at refl) c.no_entry.ensures

@@ -12,7 +12,7 @@ returns-in-Ok-append-clause-step g c =
       record {
         record_is = record_of c.args.entry.now c.as_slice.result.now c.in-Ok.ensures.entry (c.as_slice.ensures ∙ c.in-Ok.ensures.bytes);
         grown = t.used;
-        did = record { full = t.full; count = t.count; told = t.told; list_is = t.kept; doubt = t.doubts; crash = t.crash };
+        did = record { full = t.full; count = t.count; label = t.label; told = t.told; list_is = t.kept; doubt = t.doubts; crash = t.crash };
       },
     )
 
@@ -26,6 +26,7 @@ returns-in-Err-Fault-clause-step g c =
         did = record {
           full = rw c.in-Err-Fault.field-0-is at t.full;
           count = rw c.in-Err-Fault.field-0-is at t.count;
+          label = t.label;
           told = t.told;
           list_is = t.same;
           doubt = rw c.in-Err-Fault.field-0-is at t.doubts;
@@ -44,6 +45,7 @@ returns-clause-step g c =
         did = record {
           full = rw c.in-Err-Full.field-0-is at t.full;
           count = rw c.in-Err-Full.field-0-is at t.count;
+          label = t.label;
           told = t.told;
           list_is = t.same;
           doubt = rw c.in-Err-Full.field-0-is at t.doubts;

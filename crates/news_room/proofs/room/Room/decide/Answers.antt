@@ -22,7 +22,7 @@ keep-requires-clause-stands g c =
     let is = c.requires.stands.1.0 in (
       b,
       (
-        still_stands g.K.Keeper.keeper c.args.self.now _ b refl is refl (c.prepare.ensures.stays b.list is.machine_for),
+        still_stands g.K.Keeper.keeper c.args.self.now _ b refl is c.prepare.ensures.store (c.prepare.ensures.stays b.list is.machine_for),
         c.in-Change.ensures.change b.list is.machine_for c.requires.stands.1.1,
       ),
     )
@@ -39,7 +39,7 @@ returns-in-Change g c =
     let e = c.args.entry.now in (
       r.0,
       λ b is le.
-          let a = r.1 b (still_stands g.K.Keeper.keeper c.args.self.now _ b refl is refl (c.prepare.ensures.stays b.list is.machine_for)) (c.in-Change.ensures.change b.list is.machine_for le) in
+          let a = r.1 b (still_stands g.K.Keeper.keeper c.args.self.now _ b refl is c.prepare.ensures.store (c.prepare.ensures.stays b.list is.machine_for)) (c.in-Change.ensures.change b.list is.machine_for le) in
           decided_kept g.K.Keeper.keeper c.args.self.now _ b e r.0 _ c.keep.result
           (decides b.list e.moment e.act (prepared.Change c.in-Change.change) (c.in-Change.ensures.outcome b.list is.machine_for))
           (record { stands = a.stands; did = a.did; told = λ t. let told = a.told t in record { crash = told.crash; doubt = told.doubt } }),
@@ -50,7 +50,7 @@ returns-in-Settled g c =
     let e = c.args.entry.now in (
       [],
       λ b is le.
-          after_none g.K.Keeper.keeper c.args.self.now _ b _ _ refl is refl (c.prepare.ensures.stays b.list is.machine_for)
+          after_none g.K.Keeper.keeper c.args.self.now _ b _ _ refl is c.prepare.ensures.store (c.prepare.ensures.stays b.list is.machine_for)
           (decided_as g.K.Keeper.keeper c.args.self.now c.args.self.now b e (Done c.in-Settled.reply) refl (decides b.list e.moment e.act (prepared.Settled c.in-Settled.reply) (c.in-Settled.ensures.outcome b.list is.machine_for))),
     )
 
@@ -59,7 +59,7 @@ returns-in-Repeat g c =
     let e = c.args.entry.now in (
       [],
       λ b is le.
-          after_none g.K.Keeper.keeper c.args.self.now _ b _ _ refl is refl (c.prepare.ensures.stays b.list is.machine_for)
+          after_none g.K.Keeper.keeper c.args.self.now _ b _ _ refl is c.prepare.ensures.store (c.prepare.ensures.stays b.list is.machine_for)
           (decided_as g.K.Keeper.keeper c.args.self.now c.args.self.now b e (Repeat c.in-Repeat.reply) refl (decides b.list e.moment e.act (prepared.Repeat c.in-Repeat.reply) (c.in-Repeat.ensures.outcome b.list is.machine_for))),
     )
 
@@ -68,10 +68,10 @@ returns-in-Denied g c =
     let e = c.args.entry.now in (
       [],
       λ b is le.
-          after_none g.K.Keeper.keeper c.args.self.now _ b _ _ refl is refl (c.prepare.ensures.stays b.list is.machine_for)
+          after_none g.K.Keeper.keeper c.args.self.now _ b _ _ refl is c.prepare.ensures.store (c.prepare.ensures.stays b.list is.machine_for)
           (decided_as g.K.Keeper.keeper c.args.self.now c.args.self.now b e (Denied c.in-Denied.denial) refl (decides b.list e.moment e.act (prepared.Denied c.in-Denied.denial) (c.in-Denied.ensures.outcome b.list is.machine_for))),
     )
 
 pub returns-in-Memory : goal.returns-in-Memory
 returns-in-Memory g c =
-    ([], λ b is le. after_none g.K.Keeper.keeper c.args.self.now _ b _ _ refl is refl (c.prepare.ensures.stays b.list is.machine_for) (none_kept _ refl refl))
+    ([], λ b is le. after_none g.K.Keeper.keeper c.args.self.now _ b _ _ refl is c.prepare.ensures.store (c.prepare.ensures.stays b.list is.machine_for) (none_kept _ refl refl))

@@ -1,7 +1,7 @@
-use Rattle.std.proofs.Common.{◌≡◌, [], ◌∷◌, sym, subst}
+use Rattle.std.proofs.Common.{[], ◌∷◌, sym, ap, ◌∙◌, subst}
 use Rattle.news_types.specs.declared.entry.Entry.{Entry}
 use Rattle.newsroom.specs.Changes.{HasMemory}
-use Rattle.newsroom.specs.Stands.{StandsFor}
+use Rattle.newsroom.specs.Stands.{StandsFor, store_of}
 use Rattle.news_room.specs.Log.{IsStored}
 use Rattle.news_room.proofs.Legal.{legal_for}
 use Rattle.news_room.proofs.Rooms.{place_left}
@@ -28,7 +28,7 @@ returns-in-Ok g c =
       λ b is for_it.
           let machine = subst (λ m. StandsFor m b.list) (sym c.in-Ok.ensures.machine) is.machine_for in
           let kept : IsStored (e ∷ b.list) = record { legal = legal_for c.args.change e b.list for_it; formed = (s.1.record_is.entry, is.kept.formed) } in
-          kept_ok g.K.Keeper.keeper c.args.self.now _ b e s.0 _ s.1.record_is kept is c.in-Ok.ensures.store
+          kept_ok g.K.Keeper.keeper c.args.self.now _ b e s.0 _ s.1.record_is kept is (c.commit.ensures.store ∙ ap store_of c.in-Ok.ensures.machine)
           (c.commit.ensures.stands b.list e machine for_it) (c.commit.ensures.reply b.list e machine for_it) s.1.grown s.1.did,
     )
 
@@ -39,5 +39,5 @@ returns-in-Err g c =
       λ b is for_it.
           not_kept g.K.Keeper.keeper c.args.self.now _ b e c.in-Err.answered c.in-Err.ensures.step
           (λ entry. record { legal = legal_for c.args.change e b.list for_it; formed = (entry, is.kept.formed) })
-          is c.in-Err.ensures.store (subst (λ m. StandsFor m b.list) (sym c.in-Err.ensures.machine) is.machine_for),
+          is (ap store_of c.in-Err.ensures.machine) (subst (λ m. StandsFor m b.list) (sym c.in-Err.ensures.machine) is.machine_for),
     )

@@ -1,6 +1,6 @@
-use Rattle.std.proofs.Common.{◌≡◌, [], ◌∷◌, sym, subst}
+use Rattle.std.proofs.Common.{[], ◌∷◌, sym, ap, ◌∙◌, subst}
 use Rattle.news_types.specs.declared.entry.Entry.{Entry}
-use Rattle.newsroom.specs.Stands.{StandsFor}
+use Rattle.newsroom.specs.Stands.{StandsFor, store_of}
 use Rattle.news_room.specs.Log.{IsStored}
 use Rattle.news_room.proofs.Rooms.{place_left}
 use Rattle.news_room.proofs.Appends.{put_ok, put_none}
@@ -23,8 +23,8 @@ returns-in-Ok g c =
       λ b is legal.
           let machine = subst (λ m. StandsFor m b.list) (sym c.in-Ok.ensures.machine) is.machine_for in
           let kept : IsStored (e ∷ b.list) = record { legal = legal; formed = (s.1.record_is.entry, is.kept.formed) } in
-          put_ok g.K.Keeper.keeper c.args.self.now _ b c.args.limit e s.0 c.requires.limit s.1.record_is kept is c.in-Ok.ensures.store
-          (c.apply.ensures b.list machine legal) s.1.grown s.1.did,
+          put_ok g.K.Keeper.keeper c.args.self.now _ b c.args.limit e s.0 c.requires.limit s.1.record_is kept is (c.apply.ensures.store ∙ ap store_of c.in-Ok.ensures.machine)
+          (c.apply.ensures.stands b.list machine legal) s.1.grown s.1.did,
     )
 
 pub returns-in-Err : goal.returns-in-Err
@@ -33,7 +33,7 @@ returns-in-Err g c =
       [],
       λ b is legal.
           put_none g.K.Keeper.keeper c.args.self.now _ b c.args.limit e c.in-Err.fault c.in-Err.ensures.step (λ entry. record { legal = legal; formed = (entry, is.kept.formed) })
-          is c.in-Err.ensures.store (subst (λ m. StandsFor m b.list) (sym c.in-Err.ensures.machine) is.machine_for),
+          is (ap store_of c.in-Err.ensures.machine) (subst (λ m. StandsFor m b.list) (sym c.in-Err.ensures.machine) is.machine_for),
     )
 
 pub append_small-requires-clause-fits : goal.append_small-requires-clause-fits

@@ -1,6 +1,6 @@
-use Rattle.std.proofs.Common.{◌≡◌, ◌≤◌, ◌<◌, ◌∙◌, false, Ok, Err, sym, ap, subst, arith}
+use Rattle.std.proofs.Common.{◌≤◌, ◌<◌, ◌∙◌, false, Ok, Err, sym, ap, subst, arith}
 use Rattle.news_types.specs.History.{moment, moment_at}
-use Rattle.news_types.specs.Books.{Book, followed_by}
+use Rattle.news_types.specs.Books.{followed_by}
 use Rattle.news_types.specs.declared.entry.Act.TheVariants.{Receipt}
 use Rattle.news_types.specs.Outcome.{Done, entry_of}
 use Rattle.news_room.specs.Steps.{Puts, is_append_fault}

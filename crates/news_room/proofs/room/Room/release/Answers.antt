@@ -1,1 +1,0 @@
-use Rattle.news_room.proofs.room.Room.release.Goals as goal

@@ -1,5 +1,5 @@
 use mathlib.Core.Bool.{false, false≢true}
-use Rattle.news_room.proofs.room.tests.room_beside.Goals as goal
+use Rattle.news_room.proofs.tests.room_over.Goals as goal
 
 pub returns : goal.returns
 returns g c =

@@ -1,0 +1,53 @@
+-- What is answered where nothing hinders it.
+use Rattle.std.proofs.Common.{◌≡◌, inl, inr, ℕ, ◌+◌, cond, List, length, Option, Some, None, refl, sym, ap, ◌∙◌, arith}
+use Rattle.news_types.specs.declared.entry.Entry.{Entry}
+use Rattle.news_types.specs.declared.entry.Act.TheVariants.{Halt}
+use Rattle.news_types.specs.History.{moment_at}
+use Rattle.news_types.specs.Calls as call
+use Rattle.news_types.specs.Calls.{follow, Replied}
+use Rattle.news_types.specs.Outcome.{entry_of}
+use Rattle.news_room.specs.Log.{size_of, sizes}
+use Rattle.news_room.specs.Beside.{Beside}
+use Rattle.news_room.specs.Stands.{LIMIT, LAST}
+use Rattle.news_room.specs.Steps.{entries, Refused}
+use Rattle.news_room.specs.Complete.{HasPlace, OutcomesComplete, ReceiptsComplete, TicksComplete, HaltsComplete}
+use Rattle.news_room.specs.declared.answers.Answered.{Answered}
+use Rattle.news_room.specs.declared.answers.Kept as kept
+use Rattle.news_room.specs.declared.answers.Ticked as ticks
+use Rattle.news_room.proofs.Events.{alone, none_refused}
+
+-- an entry that has place is not refused
+has_place : (n : Beside) (limit : ℕ) (o : Option Entry) (more : List Entry) (size count : ℕ) → Refused n limit (entries o) more size count → HasPlace n limit o → ⊥
+has_place n limit None more size count f place = none_refused n limit more size count f
+has_place n limit (Some e) more size count f place =
+    let one = alone e f.next more f.rest f.is in
+    let none : sizes more ≡ 0 = ap sizes one.0 in
+    let same : size_of f.next ≡ size_of e = ap size_of one.1 in
+    omega (arith, place, none, same, f.grown, f.past)
+
+pub outcomes_complete : OutcomesComplete
+outcomes_complete n more o (Answered.Done reply) step free = inl (ap (λ x. Replied x) (sym step.0))
+outcomes_complete n more o (Answered.Repeat reply) step free = inl (ap (λ x. Replied x) (sym step.0))
+outcomes_complete n more o (Answered.Denied denial) step free = inl (ap (λ x. Replied x) (sym step.0))
+outcomes_complete n more o Answered.Fault step free = absurd (free.calm step.rose)
+outcomes_complete n more o (Answered.Full size count) step free = absurd (has_place n LIMIT o.more more size count step free.place)
+outcomes_complete n more o Answered.Memory step free = inr refl
+
+pub receipts_complete : ReceiptsComplete
+receipts_complete n more o (kept.Kept.Done reply) step free = ap (λ x. Replied x) (sym step.0)
+receipts_complete n more o (kept.Kept.Denied denial) step free = ap (λ x. Replied x) (sym step.0)
+receipts_complete n more o kept.Kept.Fault step free = absurd (free.calm step.rose)
+receipts_complete n more o (kept.Kept.Full size count) step free = absurd (has_place n LIMIT o.more more size count step free.place)
+
+pub ticks_complete : TicksComplete
+ticks_complete n b now more (ticks.Ticked.Kept place) step free =
+    ap (λ x. ticks.Ticked.Kept x) step.1 ∙ sym (ap (λ w. cond w (ticks.Ticked.Kept (length b.list + 1)) ticks.Ticked.Still) step.0)
+ticks_complete n b now more ticks.Ticked.Still step free = sym (ap (λ w. cond w (ticks.Ticked.Kept (length b.list + 1)) ticks.Ticked.Still) step.0)
+ticks_complete n b now more ticks.Ticked.Fault step free = absurd (free.calm step.rose)
+ticks_complete n b now more (ticks.Ticked.Full size count) step free = absurd (has_place n LIMIT (follow b.list call.Ticked (moment_at b.list now)) more size count step free.place)
+
+pub halts_complete : HaltsComplete
+halts_complete n b now more (ticks.Ticked.Kept place) step free = ap (λ x. ticks.Ticked.Kept x) step.0
+halts_complete n b now more ticks.Ticked.Still step free = absurd step
+halts_complete n b now more ticks.Ticked.Fault step free = absurd (free.calm step.rose)
+halts_complete n b now more (ticks.Ticked.Full size count) step free = absurd (has_place n LAST (Some (entry_of (moment_at b.list now) Halt)) more size count step free.place)

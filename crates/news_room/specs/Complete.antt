@@ -1,0 +1,47 @@
+-- What is answered where nothing hinders it.
+use Rattle.std.specs.Prelude.{◌≡◌, ◌⊎◌, ℕ, ◌+◌, ◌≤◌, List, length, if◌then◌else◌, Option, Some, None}
+use Rattle.news_types.specs.declared.entry.Entry.{Entry}
+use Rattle.news_types.specs.declared.entry.Act.TheVariants.{Halt}
+use Rattle.news_types.specs.History.{moment_at}
+use Rattle.news_types.specs.Books.{Book}
+use Rattle.news_types.specs.Legal.{some_waits}
+use Rattle.news_types.specs.Calls as call
+use Rattle.news_types.specs.Calls.{follow, Replied}
+use Rattle.news_types.specs.Outcome.{Outcome, entry_of}
+use Rattle.news_types.specs.Outcome as outcome
+use Rattle.news_io.specs.Faults.{Rose}
+use Rattle.news_room.specs.Log.{size_of}
+use Rattle.news_room.specs.Beside.{Beside}
+use Rattle.news_room.specs.Stands.{LIMIT, LAST}
+use Rattle.news_room.specs.Said.{said, said_kept}
+use Rattle.news_room.specs.Steps.{Answers, Receives, TickStep, HaltStep}
+use Rattle.news_room.specs.declared.answers.Answered.{Answered}
+use Rattle.news_room.specs.declared.answers.Kept.{Kept}
+use Rattle.news_room.specs.declared.answers.Ticked.{Ticked}
+
+-- the entry that is to follow, where one is, stays within the limit
+abbrev pub HasPlace : Beside → ℕ → Option Entry → Type 0
+HasPlace n limit None = Unit {0}
+HasPlace n limit (Some e) = n.used + size_of e ≤ limit
+
+-- it has place, and the keeper has not failed
+pub record IsFree (n : Beside) (limit : ℕ) (next : Option Entry) : Type 0 where
+  pub place : HasPlace n limit next
+  pub calm : Rose n.faults n.later_faults → ⊥
+
+-- a request and an ingest are answered as the list answers, or there was no memory
+abbrev pub OutcomesComplete : Type 0
+OutcomesComplete = (n : Beside) (more : List Entry) (o : Outcome outcome.Answered) (answered : Answered) → Answers n more o answered → IsFree n LIMIT o.more → (said answered ≡ Replied o.answer) ⊎ (answered ≡ Answered.Memory)
+
+-- a receipt is answered as the list answers
+abbrev pub ReceiptsComplete : Type 0
+ReceiptsComplete = (n : Beside) (more : List Entry) (o : Outcome outcome.Answered) (kept : Kept) → Receives n more o kept → IsFree n LIMIT o.more → said_kept kept ≡ Replied o.answer
+
+-- a tick keeps an entry where something waits
+abbrev pub TicksComplete : Type 0
+TicksComplete = (n : Beside) (b : Book) (now : ℕ) (more : List Entry) (ticked : Ticked) → TickStep n b now more ticked → IsFree n LIMIT (follow b.list call.Ticked (moment_at b.list now))
+    → ticked ≡ (if some_waits b.list (moment_at b.list now) then Ticked.Kept (length b.list + 1) else Ticked.Still)
+
+-- a halt is kept
+abbrev pub HaltsComplete : Type 0
+HaltsComplete = (n : Beside) (b : Book) (now : ℕ) (more : List Entry) (ticked : Ticked) → HaltStep n b now more ticked → IsFree n LAST (Some (entry_of (moment_at b.list now) Halt)) → ticked ≡ Ticked.Kept (length b.list + 1)
