@@ -32,6 +32,7 @@ fn main(rt: HostRuntime) -> io::Result<()> {
 struct Session {
     alloc: Global,
     log: MemoryDisk,
+    side: MemoryDisk,
     /// What the clock shows, in seconds since 1970-01-01T00:00:00Z.
     moment: u64,
     /// The lines of the batch, each with its line feed.
@@ -39,11 +40,12 @@ struct Session {
 }
 
 impl Session {
-    /// An empty disk, which is no store yet, at moment 0.
+    /// Two empty disks, which are no store yet, at moment 0.
     fn new(alloc: Global) -> Session {
         Session {
             alloc,
             log: MemoryDisk::new(alloc),
+            side: MemoryDisk::new(alloc),
             moment: 0,
             batch: Vec::new(alloc),
         }
@@ -78,6 +80,7 @@ impl Session {
 
     fn begin_store<R: Print>(&mut self, rt: &R) -> io::Result<()> {
         self.log = MemoryDisk::new(self.alloc);
+        self.side = MemoryDisk::new(self.alloc);
         self.print_command(rt, INIT, Vec::new(self.alloc))
     }
 
@@ -117,8 +120,8 @@ impl Session {
         let mut clock = MemoryClock::new(vec![in self.alloc; self.moment]?);
         let mut links: Vec<UnreachableLink> = Vec::new(self.alloc);
         let log = mem::replace(&mut self.log, MemoryDisk::new(self.alloc));
-        let side = MemoryDisk::new(self.alloc);
-        let (_, log, _) = run(
+        let side = mem::replace(&mut self.side, MemoryDisk::new(self.alloc));
+        let (_, log, side) = run(
             self.alloc,
             &words,
             &mut input,
@@ -129,6 +132,7 @@ impl Session {
             &mut links,
         );
         self.log = log;
+        self.side = side;
         Ok(output)
     }
 }

@@ -6,6 +6,7 @@ use news_types::{Memory, Text};
 use newsdesk_cli::{help_text, run, version_text};
 use std::alloc::Global;
 use std::fs::File;
+use std::io::ErrorKind;
 use std::process::ExitCode;
 use std::rt::{Env, Files};
 use std::time::Clock;
@@ -34,8 +35,10 @@ enum NoWords {
 /// The words behind the program's own name.
 fn words_of<R: Env + AllocGlobal>(rt: &R) -> Result<Vec<Text>, NoWords> {
     let mut words = Vec::new(rt.alloc());
-    let Ok(args) = env::args(rt) else {
-        return Err(NoWords::Faulty);
+    let args = match env::args(rt) {
+        Ok(args) => args,
+        Err(error) if error.kind() == ErrorKind::OutOfMemory => return Err(NoWords::Memory),
+        Err(_) => return Err(NoWords::Faulty),
     };
     for word in args.skip(1) {
         let Ok(text) = Text::copy_of(rt.alloc(), word.as_str()) else {

@@ -1,14 +1,18 @@
 -- What the commands leave.
-use Rattle.std.proofs.Common.{◌≡◌, ◌∙◌, ◌⊎◌, inl, inr, ℕ, ◌+◌, ◌≤◌, ◌≢◌, Bool, true, false, List, [], ◌∷◌, ◌++◌, length, length-append, append-nil, arith, refl, sym, ap}
+use Rattle.std.proofs.Common.{◌≡◌, ◌∙◌, ◌⊎◌, inl, inr, ℕ, ◌+◌, ◌≤◌, ◌≢◌, Bool, true, false, List, [], ◌∷◌, ◌++◌, length, length-append, append-nil, arith, refl, sym, ap, subst}
 use Rattle.std.proofs.lemmas.List.{nil_from_length}
 use mathlib.Core.Bool.{false≢true}
 use Rattle.news_types.specs.Books.{Book}
 use Rattle.news_io.specs.Disk.{DiskMeaning, LeavesOnly}
+use Rattle.news_io.specs.Faults.{Rose}
 use Rattle.news_journal.specs.Calls.{append_calls}
 use Rattle.news_journal.specs.Log.{records}
 use Rattle.news_journal.specs.Stands.{base_of, list_of, disk_of, head_of}
 use Rattle.news_journal.specs.Journal.{journal_of}
 use Rattle.news_journal.specs.Opened.{Still}
+use Rattle.news_pair.specs.Keeper.{pair_of}
+use Rattle.news_pair.specs.Stands.{log_disk, side_disk}
+use Rattle.news_pair.specs.declared.pair.Pair.{Pair}
 use Rattle.news_journal.specs.declared.log.Journal.{Journal}
 use Rattle.news_room.specs.declared.room.Room.{Room}
 use Rattle.newsdesk_cli.specs.Batch.{Holds}
@@ -56,9 +60,17 @@ module _ {D : Type 0} (disk : DiskMeaning D) where
       }
 
   -- a room that was opened stands for a book, told or not
-  pub some_book : (log : D) (r : Room (Journal D))
-      → IsOpenRoom disk log r → (b : Book) × ((before : ℕ) × Holds (journal_of disk) r b before)
-  some_book log r o = (record { store = o.store; told = false; list = o.history }, (65, o.holds false (λ is. absurd (false≢true is))))
+  pub some_book : (log side : D) (r : Room (Pair D))
+      → IsOpenRoom disk log side r → (b : Book) × ((before : ℕ) × Holds (pair_of disk) r b before)
+  some_book log side r o = (record { store = o.store; told = false; list = o.history }, (65, o.holds false (λ is. absurd (false≢true is))))
+
+  -- where the counts of the pairs rise, so do those of the disks
+  pub rose_along : (log side log' side' : D) (p q : Pair D) → (pair_of disk).faults p ≡ disk.faults log + disk.faults side → log' ≡ log_disk q → side' ≡ side_disk q
+      → Rose ((pair_of disk).faults p) ((pair_of disk).faults q) → Rose (disk.faults log + disk.faults side) (disk.faults log' + disk.faults side')
+  rose_along log side log' side' p q calm same same' rose =
+      subst (λ (n : ℕ). Rose n (disk.faults log' + disk.faults side')) calm
+      (subst (λ (d : D). Rose ((pair_of disk).faults p) (disk.faults d + disk.faults side')) (sym same)
+      (subst (λ (d : D). Rose ((pair_of disk).faults p) (disk.faults (log_disk q) + disk.faults d)) (sym same') rose))
 
 -- a log without a record, behind its last sync
 

@@ -17,7 +17,7 @@ use Rattle.news_types.specs.Answers.{query_answer, item_answer}
 use Rattle.news_types.specs.Items.{Item}
 use Rattle.news_types.specs.Publications.{item, state}
 use Rattle.news_types.specs.declared.words.State.{State}
-use Rattle.newsroom.specs.Asking.{IsBuiltQuery}
+use Rattle.newsroom.specs.Asking.{asks_frame}
 use Rattle.news_room.proofs.Steps.{none_kept}
 use Rattle.news_io.proofs.Runs.{elapses_same, elapses_weaker}
 use Rattle.news_room.proofs.Lists.{same_entry}
@@ -415,13 +415,13 @@ has_line h query.Queue asked = tt
 has_line h query.Check asked = tt
 has_line h _ asked = absurd (false≢true asked)
 
--- the newsroom answers each question that a line may ask
-pub asked_is_built : (q : Query) → has_answer q ≡ true → IsBuiltQuery q
-asked_is_built (query.Feed s after) asked = refl
-asked_is_built (query.Item i) asked = refl
-asked_is_built query.Queue asked = refl
-asked_is_built query.Check asked = refl
-asked_is_built _ asked = absurd (false≢true asked)
+-- no line asks for a frame
+pub no_frame : (q : Query) → has_answer q ≡ true → asks_frame q ≡ false
+no_frame (query.Feed s after) asked = refl
+no_frame (query.Item i) asked = refl
+no_frame query.Queue asked = refl
+no_frame query.Check asked = refl
+no_frame _ asked = absurd (false≢true asked)
 
 behind_one : (o : Option Entry) (h : History) → followed_by (entries o) h ≡ behind o h
 behind_one None h = refl

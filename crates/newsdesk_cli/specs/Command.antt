@@ -1,5 +1,5 @@
--- What each command does to the log and the output, and with which status it ends.
-use Rattle.std.specs.Prelude.{◌≡◌, ◌⊎◌, ◌≤◌, ℕ, Bool, true, List, [], ◌∷◌, ◌++◌, length, take, codes, Option, Some, None}
+-- What each command does to the log, its side and the output, and with which status it ends.
+use Rattle.std.specs.Prelude.{◌≡◌, ◌⊎◌, ◌≤◌, ℕ, ◌+◌, Bool, true, List, [], ◌∷◌, ◌++◌, length, take, codes, Option, Some, None}
 use Rattle.news_types.specs.declared.query.Query.TheVariants as query
 use Rattle.news_types.specs.Names.{Bytes}
 use Rattle.news_types.specs.History.{History}
@@ -9,16 +9,16 @@ use Rattle.news_io.specs.Clock.{ClockMeaning}
 use Rattle.news_io.specs.Disk.{DiskMeaning, LeavesOnly}
 use Rattle.news_io.specs.Sink.{SinkMeaning}
 use Rattle.news_io.specs.Source.{SourceMeaning}
-use Rattle.news_journal.specs.Journal.{journal_of}
 use Rattle.line_run.specs.Life.{Wrote, AllPassed}
 use Rattle.line_run.specs.Status.{Told, IsComplete}
 use Rattle.desk_answers.specs.Answers.{answer_bytes}
 use Rattle.news_journal.specs.Created.{IsInTheMaking}
 use Rattle.news_journal.specs.Log.{header_bytes}
 use Rattle.news_journal.specs.Opened.{Still}
-use Rattle.news_journal.specs.Stands.{disk_of}
 use Rattle.news_journal.specs.declared.header.Header.TheVariants as header
-use Rattle.news_journal.specs.declared.log.Journal.{Journal}
+use Rattle.news_pair.specs.declared.pair.Pair.{Pair}
+use Rattle.news_pair.specs.Keeper.{pair_of}
+use Rattle.news_pair.specs.Stands.{log_disk, side_disk}
 use Rattle.news_room.specs.declared.room.Room.{Room}
 use Rattle.newsdesk_cli.specs.Batch.{Answered}
 use Rattle.newsdesk_cli.specs.Lines.{no_frames, LONGEST_INPUT}
@@ -59,80 +59,88 @@ module _ {O : Type 0} (sink : SinkMeaning O) where
   abbrev pub IsChecked : History → O → O → ℕ → Type 0
   IsChecked h old new status = ((status ≡ 0) × IsWritten old new (check_line h)) ⊎ (((status ≡ 5) × IsCut old new (check_line h)) ⊎ IsStopped trouble.Memory old new status)
 
-module _ {D O : Type 0} (disk : DiskMeaning D) (sink : SinkMeaning O) (log log' : D) (o o' : O) (status : ℕ) where
-  -- the log does not serve
+module _ {D O : Type 0} (disk : DiskMeaning D) (sink : SinkMeaning O) (log log' side side' : D) (o o' : O) (status : ℕ) where
+  -- the files do not serve
   pub record NotOpened : Type 0 where
     pub why : Trouble
-    pub refused : IsRefused disk log log' why
+    pub refused : IsRefused disk log side log' side' why
     pub stopped : IsStopped sink why o o' status
 
-  -- the log was opened and told, and is as it was
+  -- the files were opened and their list told, and they hold it as before
   pub record HasChecked : Type 0 where
-    pub room : Room (Journal D)
-    pub opened : IsOpenRoom disk log room
-    pub same : log' ≡ disk_of room.keeper
+    pub room : Room (Pair D)
+    pub opened : IsOpenRoom disk log side room
+    pub same : log' ≡ log_disk room.keeper
+    pub same_side : side' ≡ side_disk room.keeper
     pub told : IsChecked sink opened.history o o' status
 
   abbrev pub IsCheck : Type 0
   IsCheck = NotOpened ⊎ HasChecked
 
 module _ {D O S C : Type 0} (disk : DiskMeaning D) (clock : ClockMeaning C) (source : SourceMeaning S) (sink : SinkMeaning O)
-    (log log' : D) (i i' : S) (o o' : O) (c c' : C) (status : ℕ) where
-  -- the log does not serve, and nothing was read
+    (log log' side side' : D) (i i' : S) (o o' : O) (c c' : C) (status : ℕ) where
+  -- the files do not serve, and nothing was read
   pub record NotBegun : Type 0 where
-    pub why : NotOpened disk sink log log' o o' status
+    pub why : NotOpened disk sink log log' side side' o o' status
     pub input_same : i' ≡ i
     pub clock_same : c' ≡ c
 
-  -- the log was opened, and the lines of the input were answered from its list on
+  -- the files were opened, and the lines of the input were answered from their list on
   pub record HasAnswered : Type 0 where
-    pub room : Room (Journal D)
-    pub opened : IsOpenRoom disk log room
-    pub after : Room (Journal D)
-    pub same : log' ≡ disk_of after.keeper
-    pub answered : (told : Bool) → (told ≡ true → disk.tells log)
-        → Answered (journal_of disk) clock source sink room after c c' i i' o o' (record { store = opened.store; told = told; list = opened.history }) 65 status
-    pub complete : source.tells i → length (source.ahead i) ≤ LONGEST_INPUT → (Rose (source.faults i) (source.faults i') → ⊥) → (Rose (sink.faults o) (sink.faults o') → ⊥) → (Rose (disk.faults log) (disk.faults log') → ⊥) → IsComplete status
+    pub room : Room (Pair D)
+    pub opened : IsOpenRoom disk log side room
+    pub after : Room (Pair D)
+    pub same : log' ≡ log_disk after.keeper
+    pub same_side : side' ≡ side_disk after.keeper
+    pub answered : (told : Bool) → (told ≡ true → disk.tells log × disk.tells side)
+        → Answered (pair_of disk) clock source sink room after c c' i i' o o' (record { store = opened.store; told = told; list = opened.history }) 65 status
+    pub complete : source.tells i → length (source.ahead i) ≤ LONGEST_INPUT → (Rose (source.faults i) (source.faults i') → ⊥) → (Rose (sink.faults o) (sink.faults o') → ⊥)
+        → (Rose (disk.faults log + disk.faults side) (disk.faults log' + disk.faults side') → ⊥) → IsComplete status
 
   abbrev pub IsBatch : Type 0
   IsBatch = NotBegun ⊎ HasAnswered
 
-module _ {D O : Type 0} (disk : DiskMeaning D) (sink : SinkMeaning O) (store : Bytes) (log log' : D) (o o' : O) (status : ℕ) where
-  -- the file is not empty, and is as it was
+module _ {D O : Type 0} (disk : DiskMeaning D) (sink : SinkMeaning O) (store : Bytes) (log log' side side' : D) (o o' : O) (status : ℕ) where
+  -- one of the files is not empty, and both are as they were
   pub record IsTaken : Type 0 where
-    pub cause : disk.tells log → disk.seen log ≡ [] → ⊥
-    pub calm : disk.faults log' ≡ disk.faults log
+    pub cause : disk.tells log → disk.tells side → disk.seen log ≡ [] → disk.seen side ≡ [] → ⊥
+    pub calm : disk.faults log' + disk.faults side' ≡ disk.faults log + disk.faults side
     pub still : Still disk log log'
+    pub still_side : Still disk side side'
     pub stopped : IsStopped sink trouble.WrongStore o o' status
 
   -- a crash leaves what it might have left before, or a log in the making
   abbrev pub MayBeMade : Type 0
   MayBeMade = LeavesOnly disk log log' (λ c. disk.may_leave log c ⊎ IsInTheMaking (header.Room store) c)
 
-  -- the disk has failed
+  -- a disk has failed
   pub record IsUnmade : Type 0 where
-    pub rose : Rose (disk.faults log) (disk.faults log')
+    pub rose : Rose (disk.faults log + disk.faults side) (disk.faults log' + disk.faults side')
     pub told : disk.tells log → disk.tells log'
     pub crash : disk.tells log → MayBeMade
+    pub still_side : Still disk side side'
     pub stopped : IsStopped sink trouble.Store o o' status
 
-  -- the file was empty, and is a log without a record
+  -- both files were empty, and one is a log without a record
   pub record IsMade : Type 0 where
     pub status_is : status ≡ 0
     pub silent : o' ≡ o
     pub empty : disk.tells log → disk.seen log ≡ []
+    pub empty_side : disk.tells side → disk.seen side ≡ []
     pub bytes : disk.tells log → disk.seen log' ≡ header_bytes (header.Room store) ++ 0 ∷ []
-    pub calm : disk.faults log' ≡ disk.faults log
+    pub calm : disk.faults log' + disk.faults side' ≡ disk.faults log + disk.faults side
     pub told : disk.tells log → disk.tells log'
     pub crash : disk.tells log → LeavesOnly disk log log' (IsInTheMaking (header.Room store))
     -- from now on a crash leaves the log
     pub durable : disk.tells log → (c : List ℕ) → disk.may_leave log' c → c ≡ header_bytes (header.Room store) ++ 0 ∷ []
+    -- the side is left empty
+    pub still_side : Still disk side side'
 
   abbrev pub IsInit : Type 0
   IsInit = IsTaken ⊎ (IsUnmade ⊎ IsMade)
 
 module _ {D O S C : Type 0} (disk : DiskMeaning D) (clock : ClockMeaning C) (source : SourceMeaning S) (sink : SinkMeaning O)
-    (log log' : D) (i i' : S) (o o' : O) (c c' : C) (status : ℕ) where
+    (log log' side side' : D) (i i' : S) (o o' : O) (c c' : C) (status : ℕ) where
   -- nothing was read from the input and the clock
   pub record Unread : Type 0 where
     pub input_same : i' ≡ i
@@ -142,11 +150,12 @@ module _ {D O S C : Type 0} (disk : DiskMeaning D) (clock : ClockMeaning C) (sou
   pub record IsUsage : Type 0 where
     pub status_is : status ≡ 2
     pub same : log' ≡ log
+    pub same_side : side' ≡ side
     pub line : Told sink o o' usage
 
   -- what these words do
   abbrev pub Does : Option Job → Type 0
   Does None = Unread × IsUsage
-  Does (Some (Init store)) = Unread × IsInit disk sink store log log' o o' status
-  Does (Some Check) = Unread × IsCheck disk sink log log' o o' status
-  Does (Some Batch) = IsBatch disk clock source sink log log' i i' o o' c c' status
+  Does (Some (Init store)) = Unread × IsInit disk sink store log log' side side' o o' status
+  Does (Some Check) = Unread × IsCheck disk sink log log' side side' o o' status
+  Does (Some Batch) = IsBatch disk clock source sink log log' side side' i i' o o' c c' status

@@ -7,4 +7,5 @@ pub mod Batch
 pub mod Command
 pub mod Words
 pub mod Trouble
+pub mod Kinds
 pub mod Store

@@ -1,16 +1,18 @@
 //! What a command line does.
-ghost use Rattle.std.specs.Prelude.{◌≡◌, Some};
-ghost use Rattle.news_io.specs.Faults.{Rose};
+ghost use Rattle.std.specs.Prelude.{◌≡◌, ◌+◌, [], Some, IfOk, IsTrue};
+ghost use Rattle.news_io.specs.Faults.{Counts};
+ghost use Rattle.news_journal.specs.Opened.{Still};
 ghost use Rattle.newsdesk_cli.specs.Words.{job_of};
 ghost use Rattle.newsdesk_cli.specs.Command.{IsStopped, IsInit, IsBatch, IsCheck, Does};
 
 use crate::batch::answer_input;
 use crate::check::check_line;
-use crate::store::{length_of, open_room};
+use crate::kinds::is_empty;
+use crate::store::open_room;
 use crate::trouble::Trouble;
 use crate::words::{Job, read_words};
 use line_run::tell;
-use news_io::{Clock, Disk, Keeper, Link, Sink, Source};
+use news_io::{Clock, Disk, Failed, Keeper, Link, Sink, Source};
 use news_journal::{Header, Journal};
 use news_types::Text;
 use std::alloc::Global;
@@ -19,7 +21,8 @@ use uuid::Uuid;
 /// The line before status 2.
 const USAGE: &[u8] = b"{\"status\":2}\n";
 
-/// Does what the words ask for, and gives the status and the two disks back. The side and the links are not used yet.
+/// Does what the words ask for, and gives the status and the two disks back, the log's and the side's. The links are not
+/// used yet.
 #[tactic(none)]
 pub fn run<S: Source, O: Sink, D: Disk, C: Clock, L: Link>(
     alloc: Global,
@@ -31,16 +34,14 @@ pub fn run<S: Source, O: Sink, D: Disk, C: Clock, L: Link>(
     clock: &mut C,
     links: &mut Vec<L>,
 ) -> (u8, D, D)
-    ensures does { Does D.disk C.clock S.source O.sink log result.1 input.old input.new output.old output.new clock.old clock.new result.0 (job_of words.now) }
-    ensures side { result.2 ≡ side }
+    ensures does { Does D.disk C.clock S.source O.sink log result.1 side result.2 input.old input.new output.old output.new clock.old clock.new result.0 (job_of words.now) }
     ensures links { links.new ≡ links.old }
 {
     let Some(job) = read_words(words) else {
         tell(output, USAGE);
         return (2, log, side);
     };
-    let (status, log) = do_job(alloc, job, input, output, log, clock);
-    (status, log, side)
+    do_job(alloc, job, input, output, log, side, clock)
 }
 
 /// Does what a command asks for.
@@ -51,14 +52,15 @@ fn do_job<S: Source, O: Sink, D: Disk, C: Clock>(
     input: &mut S,
     output: &mut O,
     log: D,
+    side: D,
     clock: &mut C,
-) -> (u8, D)
-    ensures { Does D.disk C.clock S.source O.sink log result.1 input.old input.new output.old output.new clock.old clock.new result.0 (Some job) }
+) -> (u8, D, D)
+    ensures { Does D.disk C.clock S.source O.sink log result.1 side result.2 input.old input.new output.old output.new clock.old clock.new result.0 (Some job) }
 {
     match job {
-        Job::Init(store) => init(output, log, store),
-        Job::Batch => batch(alloc, input, output, log, clock),
-        Job::Check => check(alloc, output, log),
+        Job::Init(store) => init(output, log, side, store),
+        Job::Batch => batch(alloc, input, output, log, side, clock),
+        Job::Check => check(alloc, output, log, side),
     }
 }
 
@@ -70,19 +72,35 @@ fn stop<O: Sink>(output: &mut O, trouble: Trouble) -> u8
     trouble.status()
 }
 
-/// Makes an empty file the log of a store.
-#[tactic(none)]
-fn init<O: Sink, D: Disk>(output: &mut O, mut log: D, store: Uuid) -> (u8, D)
-    ensures { IsInit D.disk O.sink store log result.1 output.old output.new result.0 }
+/// Whether both files are empty.
+fn are_empty<D: Disk>(log: &mut D, side: &mut D) -> Result<bool, Failed>
+    ensures empty { D.disk.tells log.old → IfOk result (λ none. IsTrue none → D.disk.seen log.old ≡ []) }
+    ensures empty_side { D.disk.tells side.old → IfOk result (λ none. IsTrue none → D.disk.seen side.old ≡ []) }
+    ensures some { D.disk.tells log.old → D.disk.tells side.old → IfOk result (λ none. D.disk.seen log.old ≡ [] → D.disk.seen side.old ≡ [] → IsTrue none) }
+    ensures still { Still D.disk log.old log.new }
+    ensures still_side { Still D.disk side.old side.new }
+    ensures count { Counts (D.disk.faults log.old + D.disk.faults side.old) (D.disk.faults log.new + D.disk.faults side.new) result }
 {
-    match length_of(&mut log) {
-        Ok(0) => {}
-        Ok(_) => return (stop(output, Trouble::WrongStore), log),
-        Err(_) => return (stop(output, Trouble::Store), log),
+    match is_empty(log) {
+        Ok(true) => is_empty(side),
+        Ok(false) => Ok(false),
+        Err(failed) => Err(failed),
+    }
+}
+
+/// Makes two empty files a store: the log is made, and the side is left empty.
+#[tactic(none)]
+fn init<O: Sink, D: Disk>(output: &mut O, mut log: D, mut side: D, store: Uuid) -> (u8, D, D)
+    ensures { IsInit D.disk O.sink store log result.1 side result.2 output.old output.new result.0 }
+{
+    match are_empty(&mut log, &mut side) {
+        Ok(true) => {}
+        Ok(false) => return (stop(output, Trouble::WrongStore), log, side),
+        Err(_) => return (stop(output, Trouble::Store), log, side),
     }
     match Journal::create(log, &Header::Room { store }) {
-        Ok(journal) => (0, journal.into_disk()),
-        Err((log, _)) => (stop(output, Trouble::Store), log),
+        Ok(journal) => (0, journal.into_disk(), side),
+        Err((log, _)) => (stop(output, Trouble::Store), log, side),
     }
 }
 
@@ -93,29 +111,32 @@ fn batch<S: Source, O: Sink, D: Disk, C: Clock>(
     input: &mut S,
     output: &mut O,
     log: D,
+    side: D,
     clock: &mut C,
-) -> (u8, D)
-    ensures { IsBatch D.disk C.clock S.source O.sink log result.1 input.old input.new output.old output.new clock.old clock.new result.0 }
+) -> (u8, D, D)
+    ensures { IsBatch D.disk C.clock S.source O.sink log result.1 side result.2 input.old input.new output.old output.new clock.old clock.new result.0 }
 {
-    match open_room(alloc, log) {
+    match open_room(alloc, log, side) {
         Ok(mut room) => {
             let status = answer_input(alloc, input, output, &mut room, clock);
-            (status, room.into_keeper().into_disk())
+            let (log, side) = room.into_keeper().into_disks();
+            (status, log, side)
         }
-        Err((log, trouble)) => (stop(output, trouble), log),
+        Err((log, side, trouble)) => (stop(output, trouble), log, side),
     }
 }
 
-/// Opens the log, and says what it holds.
+/// Opens the log and its side, and says what they hold.
 #[tactic(none)]
-fn check<O: Sink, D: Disk>(alloc: Global, output: &mut O, log: D) -> (u8, D)
-    ensures { IsCheck D.disk O.sink log result.1 output.old output.new result.0 }
+fn check<O: Sink, D: Disk>(alloc: Global, output: &mut O, log: D, side: D) -> (u8, D, D)
+    ensures { IsCheck D.disk O.sink log result.1 side result.2 output.old output.new result.0 }
 {
-    match open_room(alloc, log) {
+    match open_room(alloc, log, side) {
         Ok(room) => {
             let status = check_line(alloc, output, &room);
-            (status, room.into_keeper().into_disk())
+            let (log, side) = room.into_keeper().into_disks();
+            (status, log, side)
         }
-        Err((log, trouble)) => (stop(output, trouble), log),
+        Err((log, side, trouble)) => (stop(output, trouble), log, side),
     }
 }

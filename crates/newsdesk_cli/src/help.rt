@@ -17,7 +17,7 @@ or a question, as
   {\"ask\":\"feed\",\"subscriber\":\"alpha\",\"after\":0}
 
 Exit status: 0 all was answered, 2 usage, 3 wrong store, 4 read fault, 5 write fault, 6 store fault,
-7 damaged log, 8 log full, 9 out of memory, 12 input too long. A status other than 0 and 5 is written
+7 damaged log or side, 8 log full, 9 out of memory, 12 input too long. A status other than 0 and 5 is written
 to the output too, as {\"status\":7} with the place of the damage.
 "
 }

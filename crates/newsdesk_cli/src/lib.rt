@@ -6,6 +6,7 @@ mod check;
 mod command;
 mod desk;
 mod help;
+mod kinds;
 mod scope;
 mod store;
 mod texts;

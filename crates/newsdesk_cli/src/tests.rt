@@ -1,4 +1,5 @@
 //! Commands over a log, an input and an output in memory: what they answer, what the log holds then, and what each trouble does.
+mod siding;
 mod tearing;
 
 use crate::run;
@@ -62,6 +63,7 @@ struct Left {
     status: u8,
     output: MemorySink,
     log: MemoryDisk,
+    side: MemoryDisk,
 }
 
 fn texts_of(alloc: Global, words: &[&str]) -> Result<Vec<Text>, Memory> {
@@ -103,15 +105,28 @@ fn clock_of(alloc: Global, later: &[u64]) -> Result<MemoryClock, Memory> {
 fn done(
     alloc: Global,
     words: &[&str],
+    input: MemorySource,
+    output: MemorySink,
+    log: MemoryDisk,
+    clock: MemoryClock,
+) -> Result<Left, Memory> {
+    let side = MemoryDisk::new(alloc);
+    done_beside(alloc, words, input, output, log, side, clock)
+}
+
+/// Runs a command over a log and its side.
+fn done_beside(
+    alloc: Global,
+    words: &[&str],
     mut input: MemorySource,
     mut output: MemorySink,
     log: MemoryDisk,
+    side: MemoryDisk,
     mut clock: MemoryClock,
 ) -> Result<Left, Memory> {
     let words = texts_of(alloc, words)?;
     let mut links: Vec<UnreachableLink> = Vec::new(alloc);
-    let side = MemoryDisk::new(alloc);
-    let (status, log, _) = run(
+    let (status, log, side) = run(
         alloc,
         &words,
         &mut input,
@@ -128,6 +143,7 @@ fn done(
         status,
         output,
         log,
+        side,
     })
 }
 
@@ -149,7 +165,7 @@ fn done_with(
     )
 }
 
-/// Whether that status, those lines and that log were left.
+/// Whether that status, those lines and that log were left, and a side without a byte.
 fn is_left(
     alloc: Global,
     left: &Left,
@@ -162,7 +178,8 @@ fn is_left(
     Ok(
         left.status == status
             && left.output.as_bytes() == lines.as_slice()
-            && left.log.as_bytes() == log.as_slice(),
+            && left.log.as_bytes() == log.as_slice()
+            && left.side.as_bytes().is_empty(),
     )
 }
 

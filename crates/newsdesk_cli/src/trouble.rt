@@ -1,22 +1,30 @@
-//! Why a log does not serve.
+//! Why a log and its side do not serve.
 ghost use Rattle.std.specs.Prelude.{◌≡◌, ◌≤◌, ◌+◌, ◌++◌, ◌<◌, length, decimal};
-ghost use Rattle.newsdesk_cli.specs.Trouble.{status_of, line_of, byte_or_null};
+ghost use Rattle.newsdesk_cli.specs.Trouble.{status_of, line_of, place_of, byte_or_null};
 
 use byte_formats::SmallBytes;
 use itoa::Buffer;
 
-/// Why a log does not serve.
+/// Why a log and its side do not serve.
 #[derive(Clone, Copy, Debug, PartialEq, Eq)]
 pub(crate) enum Trouble {
-    /// The file is empty where a log is wanted, or holds something where none is; or it is no newsroom's log.
+    /// The log is empty where one is wanted, or a file holds something where none does; or they are not a newsroom's log and
+    /// its side.
     WrongStore,
-    /// The disk has failed.
+    /// A disk has failed.
     Store,
-    /// The bytes are no log of a newsroom.
+    /// The log's bytes show that the two are no newsroom's list.
     Damaged {
-        /// The place that shows it, in bytes from the file's start.
+        /// The place that shows it, in bytes from the log's start.
         at: u64,
-        /// The byte there, or nothing where the file or a payload ends.
+        /// The byte there, or nothing where the log or a payload ends.
+        found: Option<u8>,
+    },
+    /// The side's bytes show it.
+    DamagedSide {
+        /// The place that shows it, in bytes from the side's start.
+        at: u64,
+        /// The byte there, or nothing where the side or a payload ends.
         found: Option<u8>,
     },
     /// There was no memory.
@@ -46,6 +54,17 @@ fn push_byte_or_null(line: &mut SmallBytes<LINE>, byte: Option<u8>)
     }
 }
 
+fn push_place(line: &mut SmallBytes<LINE>, at: u64, found: Option<u8>)
+    requires { length line.old + 55 ≤ 80 }
+    ensures bytes { line.new ≡ line.old ++ place_of at found }
+    ensures few { length line.new ≤ length line.old + 55 }
+{
+    line.push_slice(b"{\"at\":");
+    push_number(line, at);
+    line.push_slice(b",\"found\":");
+    push_byte_or_null(line, found);
+}
+
 impl Trouble {
     /// The exit status.
     pub(crate) fn status(self) -> u8
@@ -54,7 +73,7 @@ impl Trouble {
         match self {
             Trouble::WrongStore => 3,
             Trouble::Store => 6,
-            Trouble::Damaged { .. } => 7,
+            Trouble::Damaged { .. } | Trouble::DamagedSide { .. } => 7,
             Trouble::Memory => 9,
         }
     }
@@ -68,11 +87,12 @@ impl Trouble {
             Trouble::WrongStore => line.push_slice(b"{\"status\":3}\n"),
             Trouble::Store => line.push_slice(b"{\"status\":6}\n"),
             Trouble::Damaged { at, found } => {
-                line.push_slice(b"{\"at\":");
-                push_number(&mut line, at);
-                line.push_slice(b",\"found\":");
-                push_byte_or_null(&mut line, found);
+                push_place(&mut line, at, found);
                 line.push_slice(b",\"status\":7}\n");
+            }
+            Trouble::DamagedSide { at, found } => {
+                push_place(&mut line, at, found);
+                line.push_slice(b",\"side\":true,\"status\":7}\n");
             }
             Trouble::Memory => line.push_slice(b"{\"status\":9}\n"),
         }

@@ -121,17 +121,42 @@ fn leaves_answered(alloc: Global, left: &Left, whole: &[u8]) -> Result<bool, Mem
     Ok(true)
 }
 
+/// The script's calls are tried in so many parts, since each of their tests has a minute.
+const PARTS: u64 = 3;
+
+/// The first call of a part behind which some image does not open to what was answered.
+fn first_lost(alloc: Global, part: u64) -> Result<Option<u64>, Memory> {
+    let whole = stopped_after(alloc, u64::MAX)?;
+    let log = whole.log.as_bytes();
+    if whole.status != 0 || answered(&whole) != 10 || !opens_to(alloc, log, log, 10)? {
+        return Ok(Some(whole.log.call_count()));
+    }
+    for calls in 0..whole.log.call_count() {
+        if calls % PARTS != part {
+            continue;
+        }
+        let left = stopped_after(alloc, calls)?;
+        if left.status != 6 || !leaves_answered(alloc, &left, log)? {
+            return Ok(Some(calls));
+        }
+    }
+    Ok(None)
+}
+
 #[test]
 fn each_image_of_a_crash_opens_to_what_was_answered(rt: HostRuntime) -> Result<(), Fail> {
-    let alloc = rt.alloc();
-    let whole = stopped_after(alloc, u64::MAX)?;
-    assert!(rt; whole.status == 0 && answered(&whole) == 10);
-    let log = whole.log.as_bytes();
-    assert!(rt; opens_to(alloc, log, log, 10)?);
-    for calls in 0..whole.log.call_count() {
-        let left = stopped_after(alloc, calls)?;
-        assert!(rt; left.status == 6, "{calls}");
-        assert!(rt; leaves_answered(alloc, &left, log)?, "{calls}");
-    }
+    assert_eq!(rt; first_lost(rt.alloc(), 0)?, None);
+    Ok(())
+}
+
+#[test]
+fn each_image_behind_the_next_calls(rt: HostRuntime) -> Result<(), Fail> {
+    assert_eq!(rt; first_lost(rt.alloc(), 1)?, None);
+    Ok(())
+}
+
+#[test]
+fn each_image_behind_the_calls_between(rt: HostRuntime) -> Result<(), Fail> {
+    assert_eq!(rt; first_lost(rt.alloc(), 2)?, None);
     Ok(())
 }

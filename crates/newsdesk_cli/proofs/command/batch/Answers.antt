@@ -1,25 +1,27 @@
-use Rattle.std.proofs.Common.{◌∙◌, inl, inr, ap, subst, sym, refl}
-use Rattle.news_io.specs.Faults.{Rose}
-use Rattle.news_journal.specs.Stands.{disk_of}
-use Rattle.newsdesk_cli.proofs.Commands.{some_book}
+use Rattle.std.proofs.Common.{◌∙◌, inl, inr, ap, refl}
+use Rattle.news_pair.specs.Stands.{log_disk, side_disk}
+use Rattle.newsdesk_cli.proofs.Commands.{some_book, rose_along}
 use Rattle.newsdesk_cli.proofs.command.batch.Goals as goal
 
 pub answer_input-status-requires : goal.answer_input-status-requires
 answer_input-status-requires g c =
     let d = g.D.Disk.disk in
-    record { holds = some_book d c.args.log c.in-Ok.room c.in-Ok.ensures.opened }
+    record { holds = some_book d c.args.log c.args.side c.in-Ok.room c.in-Ok.ensures.opened }
 
 pub returns-in-Ok : goal.returns-in-Ok
 returns-in-Ok g c =
+    let d = g.D.Disk.disk in
     let done = c.answer_input-status.ensures in
-    let same = c.into_disk.ensures ∙ ap disk_of c.into_keeper.ensures in
+    let same = ap (λ both. both.0) c.into_disks-log.ensures ∙ ap log_disk c.into_keeper.ensures in
+    let same_side = ap (λ both. both.1) c.into_disks-log.ensures ∙ ap side_disk c.into_keeper.ensures in
     inr (record {
       room = c.in-Ok.room;
       opened = c.in-Ok.ensures.opened;
       after = c.answer_input-status.new.room;
       same = same;
+      same_side = same_side;
       answered = λ told only. done.answered (record { store = c.in-Ok.ensures.opened.store; told = told; list = c.in-Ok.ensures.opened.history }) 65 (c.in-Ok.ensures.opened.holds told only);
-      complete = λ given few reads writes disk. done.complete given few reads writes (λ rose. disk (subst (λ n. Rose n (g.D.Disk.disk.faults c.into_disk.result)) c.in-Ok.ensures.opened.calm (subst (λ x. Rose (g.D.Disk.disk.faults (disk_of c.in-Ok.room.keeper)) (g.D.Disk.disk.faults x)) (sym same) rose)));
+      complete = λ given few reads writes disks. done.complete given few reads writes (λ rose. disks (rose_along d c.args.log c.args.side c.into_disks-log.result.0 c.into_disks-log.result.1 c.in-Ok.room.keeper c.answer_input-status.new.room.keeper c.in-Ok.ensures.opened.calm same same_side rose));
     })
 
 pub returns-in-Err : goal.returns-in-Err

@@ -1,13 +1,13 @@
 use Rattle.std.proofs.Common.{◌∙◌, inl, inr, false, ap}
 use mathlib.Core.Bool.{false≢true}
-use Rattle.news_journal.specs.Stands.{disk_of}
+use Rattle.news_pair.specs.Stands.{log_disk, side_disk}
 use Rattle.newsdesk_cli.proofs.Commands.{some_book}
 use Rattle.newsdesk_cli.proofs.command.check.Goals as goal
 
 pub check_line-status-requires : goal.check_line-status-requires
 check_line-status-requires g c =
     let d = g.D.Disk.disk in
-    let found = some_book d c.args.log c.in-Ok.room c.in-Ok.ensures.opened in
+    let found = some_book d c.args.log c.args.side c.in-Ok.room c.in-Ok.ensures.opened in
     (found.0, found.1.1.stands)
 
 pub returns-in-Ok : goal.returns-in-Ok
@@ -16,7 +16,8 @@ returns-in-Ok g c =
     inr (record {
       room = c.in-Ok.room;
       opened = room;
-      same = c.into_disk.ensures ∙ ap disk_of c.into_keeper.ensures;
+      same = ap (λ both. both.0) c.into_disks-log.ensures ∙ ap log_disk c.into_keeper.ensures;
+      same_side = ap (λ both. both.1) c.into_disks-log.ensures ∙ ap side_disk c.into_keeper.ensures;
       told = c.check_line-status.ensures (record { store = room.store; told = false; list = room.history }) (room.holds false (λ is. absurd (false≢true is))).stands;
     })
 

@@ -7,12 +7,15 @@ returns-in-Some-clause-refused g c = c.in-Some.ensures.some
 pub returns-in-None-clause-opened : goal.returns-in-None-clause-opened
 returns-in-None-clause-opened g c =
     let d = g.D.Disk.disk in
+    let asked = c.kind_trouble in
     opened_behind d
-    c.args.log c.kind_trouble.new.log c.open_log.result
-    c.kind_trouble.ensures.still (c.kind_trouble.ensures.calm c.in-None.is) c.open_log.ensures.opened
+    c.args.log asked.new.log c.args.side asked.new.side asked.ensures.still asked.ensures.still_side (asked.ensures.calm c.in-None.is) c.open_pair.result
+    c.open_pair.ensures.opened
 
 pub returns-in-None-clause-refused : goal.returns-in-None-clause-refused
 returns-in-None-clause-refused g c =
     let d = g.D.Disk.disk in
-    err_behind d c.args.log c.kind_trouble.new.log c.open_log.result
-    c.kind_trouble.ensures.still (c.kind_trouble.ensures.calm c.in-None.is) (c.kind_trouble.ensures.none c.in-None.is) c.open_log.ensures.cause c.open_log.ensures.count c.open_log.ensures.still
+    let asked = c.kind_trouble in
+    err_behind d
+    c.args.log asked.new.log c.args.side asked.new.side asked.ensures.still asked.ensures.still_side (asked.ensures.calm c.in-None.is)
+    (asked.ensures.none c.in-None.is) c.open_pair.result c.open_pair.ensures.cause c.open_pair.ensures.count c.open_pair.ensures.crash c.open_pair.ensures.still

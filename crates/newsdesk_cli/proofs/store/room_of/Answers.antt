@@ -1,9 +1,9 @@
-use Rattle.std.proofs.Common.{length, arith, ap}
+use Rattle.std.proofs.Common.{rules, length, arith, ap}
 use Rattle.newsdesk_cli.proofs.Stores.{not_room, early, is_room, no_room}
 use Rattle.newsdesk_cli.proofs.store.room_of.Goals as goal
 
 pub returns-in_default-clause-none : goal.returns-in_default-clause-none
-returns-in_default-clause-none g c = (c.into_disk.ensures, not_room c.args.opened.header c.args.opened.records c.in_default.not-Room)
+returns-in_default-clause-none g c = (ap (λ both. both.0) c.into_disks-log.ensures, ap (λ both. both.1) c.into_disks-log.ensures, not_room c.args.opened.header c.args.opened.records c.in_default.not-Room)
 
 pub open-requires-clause-few : goal.open-requires-clause-few
 open-requires-clause-few g c = omega (arith, ap length c.as_slice.ensures, c.requires.few.count)
@@ -14,10 +14,10 @@ open-requires-clause-places g c = early c.args.opened.records c.as_slice.result.
 pub returns-in-Ok-clause-room : goal.returns-in-Ok-clause-room
 returns-in-Ok-clause-room g c =
     is_room c.args.opened c.in-Room.store c.as_slice.result.now c.in-Room.is c.as_slice.ensures
-    g.D.Disk.disk c.in-Ok.room c.in-Ok.ensures
+    g.D.Disk.disk c.in-Ok.room (search rules) c.in-Ok.ensures
 
 pub returns-clause-none : goal.returns-clause-none
 returns-clause-none g c =
     let given = c.in-Err.ensures in
     no_room c.args.opened c.in-Room.store c.as_slice.result.now c.in-Room.is c.as_slice.ensures
-    c.in-Err.journal c.in-Err.fault c.into_disk-in-Err.result c.trouble_of.result c.into_disk-in-Err.ensures c.trouble_of.ensures given.0 given.1
+    c.in-Err.pair c.in-Err.fault c.into_disks-log-in-Err.result c.room_trouble.result c.into_disks-log-in-Err.ensures c.room_trouble.ensures given.0 given.1

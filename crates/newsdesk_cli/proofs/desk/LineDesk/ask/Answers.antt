@@ -9,14 +9,14 @@ pub told-requires-clause-stands : goal.told-requires-clause-stands
 told-requires-clause-stands g c =
     let s = c.requires.stands.0 in
     let b = book s c.requires.stands.1.0 in
-    (onto c.tick.ensures.0 b, (c.tick.ensures.1 b c.requires.stands.1.1.room_stands).0)
+    (onto c.tick.ensures.0 b, (c.tick.ensures.1 b c.requires.stands.1.1.room_stands).stands)
 
 pub returns-in-Kept-clause-step : goal.returns-in-Kept-clause-step
 returns-in-Kept-clause-step g c s h stands =
     let r = c.tick.ensures in
     let did = r.1 (book s h) stands.room_stands in
-    ticked_step g.K.Keeper.keeper g.C.Clock.clock s c.args.self.now _ h c.now-now.result c.args.query.now c.requires.asks r.0 c.tick.result c.told.result c.in-Kept.is stands did.0 did.1 did.2
-    (record { same_room = refl; same = refl; told = c.now-now.ensures.told; gave = c.now-now.ensures.given }) (c.told.ensures (onto r.0 (book s h)) did.0)
+    ticked_step g.K.Keeper.keeper g.C.Clock.clock s c.args.self.now _ h c.now-now.result c.args.query.now c.requires.asks r.0 c.tick.result c.told.result c.in-Kept.is stands did.stands did.step did.told
+    (record { same_room = refl; same = refl; told = c.now-now.ensures.told; gave = c.now-now.ensures.given }) (c.told.ensures (onto r.0 (book s h)) did.stands)
 
 pub returns-in-Kept-clause-count : goal.returns-in-Kept-clause-count
 returns-in-Kept-clause-count g c =
@@ -24,31 +24,31 @@ returns-in-Kept-clause-count g c =
     let b = book s c.requires.stands.1.0 in
     let r = c.tick.ensures in
     let did = r.1 b c.requires.stands.1.1.room_stands in
-    let given = tick_given (numbers g.K.Keeper.keeper c.args.self.now.room.now c.tick.new.self) b c.now-now.result r.0 c.tick.result c.in-Kept.is did.1 in
-    text_counts _ _ _ c.told.result given.0.whole.calm (c.told.ensures (onto r.0 b) did.0)
+    let given = tick_given (numbers g.K.Keeper.keeper c.args.self.now.room.now c.tick.new.self) b c.now-now.result r.0 c.tick.result c.in-Kept.is did.step in
+    text_counts _ _ _ c.told.result given.0.whole.calm (c.told.ensures (onto r.0 b) did.stands)
 
 pub returns-in-Fault-clause-step : goal.returns-in-Fault-clause-step
 returns-in-Fault-clause-step g c s h stands =
     let r = rw c.in-Fault.is at c.tick.ensures in
     let did = r.1 (book s h) stands.room_stands in
     question_failed g.K.Keeper.keeper g.C.Clock.clock s c.args.self.now _ h c.now-now.result c.args.query.now c.requires.asks r.0
-    (record { stands = stands; room = did.0; told = did.2; ticked = record { same_room = refl; same = refl; told = c.now-now.ensures.told; gave = c.now-now.ensures.given } }) did.1
+    (record { stands = stands; room = did.stands; told = did.told; ticked = record { same_room = refl; same = refl; told = c.now-now.ensures.told; gave = c.now-now.ensures.given } }) did.step
 
 pub returns-in-Fault-clause-count : goal.returns-in-Fault-clause-count
 returns-in-Fault-clause-count g c =
     let r = rw c.in-Fault.is at c.tick.ensures in
     let did = r.1 (book c.requires.stands.0 c.requires.stands.1.0) c.requires.stands.1.1.room_stands in
-    did.1.rose
+    did.step.rose
 
 pub returns-in-Full-clause-step : goal.returns-in-Full-clause-step
 returns-in-Full-clause-step g c s h stands =
     let r = rw c.in-Full.is at c.tick.ensures in
     let did = r.1 (book s h) stands.room_stands in
     question_refused g.K.Keeper.keeper g.C.Clock.clock s c.args.self.now _ h c.now-now.result c.args.query.now c.requires.asks r.0 c.in-Full.size c.in-Full.length
-    (record { stands = stands; room = did.0; told = did.2; ticked = record { same_room = refl; same = refl; told = c.now-now.ensures.told; gave = c.now-now.ensures.given } }) did.1
+    (record { stands = stands; room = did.stands; told = did.told; ticked = record { same_room = refl; same = refl; told = c.now-now.ensures.told; gave = c.now-now.ensures.given } }) did.step
 
 pub returns-in-Full-clause-count : goal.returns-in-Full-clause-count
 returns-in-Full-clause-count g c =
     let r = rw c.in-Full.is at c.tick.ensures in
     let did = r.1 (book c.requires.stands.0 c.requires.stands.1.0) c.requires.stands.1.1.room_stands in
-    did.1.calm
+    did.step.calm

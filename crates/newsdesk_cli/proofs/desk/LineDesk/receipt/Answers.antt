@@ -13,8 +13,8 @@ pub returns-clause-step : goal.returns-clause-step
 returns-clause-step g c s h stands =
     let r = c.receipt-kept.ensures in
     let did = r.1 (book s h) stands.room_stands in
-    receipt_step g.K.Keeper.keeper g.C.Clock.clock s c.args.self.now _ h c.now-now.result c.args.subscriber c.args.n r.0 c.receipt-kept.result c.receipt_answered.result did.1
-    (record { stands = stands; room = did.0; told = did.2; ticked = record { same_room = refl; same = refl; told = c.now-now.ensures.told; gave = c.now-now.ensures.given } }) c.receipt_answered.ensures
+    receipt_step g.K.Keeper.keeper g.C.Clock.clock s c.args.self.now _ h c.now-now.result c.args.subscriber c.args.n r.0 c.receipt-kept.result c.receipt_answered.result did.step
+    (record { stands = stands; room = did.stands; told = did.told; ticked = record { same_room = refl; same = refl; told = c.now-now.ensures.told; gave = c.now-now.ensures.given } }) c.receipt_answered.ensures
 
 pub returns-clause-count : goal.returns-clause-count
 returns-clause-count g c =
@@ -22,4 +22,4 @@ returns-clause-count g c =
     let s = c.requires.stands.0 in
     let h = c.requires.stands.1.0 in
     let did = r.1 (book s h) c.requires.stands.1.1.room_stands in
-    receipt_counts _ r.0 c.receipt-kept.result (receipt h c.args.subscriber c.args.n c.now-now.result) c.receipt_answered.result did.1 c.receipt_answered.ensures
+    receipt_counts _ r.0 c.receipt-kept.result (receipt h c.args.subscriber c.args.n c.now-now.result) c.receipt_answered.result did.step c.receipt_answered.ensures

@@ -17,8 +17,8 @@ returns-clause-step g c s h stands =
     let r = c.request-answered.ensures in
     let did = r.1 (book s h) stands.room_stands in
     request_step g.K.Keeper.keeper g.C.Clock.clock s c.args.self.now _ h c.now-now.result
-    c.args.caller c.args.number c.args.command r.0 c.request-answered.result c.request_answered.result did.1
-    (record { stands = stands; room = did.0; told = did.2; ticked = record { same_room = refl; same = refl; told = c.now-now.ensures.told; gave = c.now-now.ensures.given } }) c.request_answered.ensures
+    c.args.caller c.args.number c.args.command r.0 c.request-answered.result c.request_answered.result did.step
+    (record { stands = stands; room = did.stands; told = did.told; ticked = record { same_room = refl; same = refl; told = c.now-now.ensures.told; gave = c.now-now.ensures.given } }) c.request_answered.ensures
 
 pub returns-clause-count : goal.returns-clause-count
 returns-clause-count g c =
@@ -26,4 +26,4 @@ returns-clause-count g c =
     let s = c.requires.stands.0 in
     let h = c.requires.stands.1.0 in
     let did = r.1 (book s h) c.requires.stands.1.1.room_stands in
-    request_counts _ r.0 c.request-answered.result (request h c.args.caller c.args.number c.args.command c.now-now.result) c.request_answered.result did.1 c.request_answered.ensures
+    request_counts _ r.0 c.request-answered.result (request h c.args.caller c.args.number c.args.command c.now-now.result) c.request_answered.result did.step c.request_answered.ensures
