@@ -1,0 +1,3 @@
+mod NameText
+pub mod Receipts
+pub mod PathLaws

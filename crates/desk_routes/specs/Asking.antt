@@ -1,0 +1,122 @@
+-- What a request asks, or why it is refused before anything is asked.
+use Rattle.std.specs.Prelude.{◌≡◌, ℕ, Option, Some, None, Result, Ok, Err}
+use Rattle.news_types.specs.declared.story.Incoming.{Incoming}
+use Rattle.news_types.specs.declared.query.Query.TheVariants as query
+use Rattle.news_types.specs.Names.{Bytes}
+use Rattle.news_types.specs.Fits.{FitsIncoming}
+use Rattle.news_types.specs.FitsCommands.{FitsCommand}
+use Rattle.desk_lines.specs.declared.asked.Asked.{Asked}
+use Rattle.desk_lines.specs.declared.asked.Asked.TheVariants as line
+use Rattle.desk_lines.specs.declared.property.LineProperty.{LineProperty}
+use Rattle.desk_lines.specs.Lines.{request_body, receipt_body}
+use Rattle.ninjs_text.specs.declared.fault.NinjsFault.{NinjsFault}
+use Rattle.ninjs_text.specs.Item.{ninjs}
+use Rattle.http_wire.specs.declared.request.HttpRequest.{HttpRequest}
+use Rattle.desk_routes.specs.declared.route.Route.{Route}
+use Rattle.desk_routes.specs.declared.route.Route.TheVariants as the
+use Rattle.desk_routes.specs.declared.ask.HttpAsk.{HttpAsk}
+use Rattle.desk_routes.specs.declared.ask.HttpAsk.TheVariants.{Request, Query, Receipt, Ingest}
+use Rattle.desk_routes.specs.declared.ask.Asking.{Asking}
+use Rattle.desk_routes.specs.declared.ask.Refusal.{Refusal}
+use Rattle.desk_routes.specs.declared.ask.Refusal.TheVariants.{NoRoute, NoCaller, BadPath, BadBody, BadItem, Memory}
+use Rattle.desk_routes.specs.Routes.{routed}
+use Rattle.desk_routes.specs.Paths.{part, name_in, number_in}
+
+-- ---- one step after another: the first that refuses ends it
+
+infixl 10 ◌>>=◌
+abbrev pub ◌>>=◌ : {A B : Type 0} → Result A Refusal → (A → Result B Refusal) → Result B Refusal
+Ok a >>= next = next a
+Err refusal >>= next = Err refusal
+
+abbrev pub or_refused : {A : Type 0} → Refusal → Option A → Result A Refusal
+or_refused refusal None = Err refusal
+or_refused refusal (Some a) = Ok a
+
+-- what is said is what was read, the refusal, or want of memory
+abbrev pub IsSaid : {A : Type 0} → Result A Refusal → Result A Refusal → Type 0
+IsSaid said (Ok a) = said ≡ Ok a
+IsSaid said (Err Memory) = Unit {0}
+IsSaid said (Err refusal) = said ≡ Err refusal
+
+-- ---- the path
+
+abbrev pub name_at : ℕ → Bytes → Result Bytes Refusal
+name_at n path = or_refused BadPath (name_in (part n path))
+
+abbrev pub number_at : ℕ → Bytes → Result ℕ Refusal
+number_at n path = or_refused BadPath (number_in (part n path))
+
+-- ---- the body
+
+abbrev pub of_line : Asked → HttpAsk
+of_line (line.Request caller number command) = Request caller number command
+of_line (line.Query question) = Query question
+of_line (line.Receipt subscriber n) = Receipt subscriber n
+
+abbrev pub from_line : Result Asked LineProperty → Result HttpAsk Refusal
+from_line (Ok asked) = Ok (of_line asked)
+from_line (Err property) = Err (BadBody property)
+
+abbrev pub from_item : Bytes → Result Incoming NinjsFault → Result HttpAsk Refusal
+from_item provider (Ok incoming) = Ok (Ingest provider incoming)
+from_item provider (Err fault) = Err (BadItem fault)
+
+-- ---- each route
+
+abbrev pub item_ask : Bytes → Result HttpAsk Refusal
+item_ask path = do
+  item ← number_at 2 path
+  Ok (Query (query.Item item))
+
+abbrev pub feed_ask : Bytes → Result HttpAsk Refusal
+feed_ask path = do
+  subscriber ← name_at 2 path
+  after ← number_at 4 path
+  Ok (Query (query.Feed subscriber after))
+
+abbrev pub frame_ask : Bytes → Result HttpAsk Refusal
+frame_ask path = do
+  subscriber ← name_at 2 path
+  k ← number_at 4 path
+  Ok (Query (query.Frame subscriber k))
+
+-- a line of a request without its caller
+abbrev pub request_ask : Bytes → Bytes → Result HttpAsk Refusal
+request_ask caller body = from_line (request_body caller body)
+
+abbrev pub receipt_ask : Bytes → Bytes → Result HttpAsk Refusal
+receipt_ask path body = do
+  subscriber ← name_at 2 path
+  from_line (receipt_body subscriber body)
+
+abbrev pub ingest_ask : Bytes → Bytes → Result HttpAsk Refusal
+ingest_ask path body = do
+  provider ← name_at 2 path
+  from_item provider (ninjs body)
+
+-- what a caller asks by a route: with this path and this body
+abbrev pub ask_by : Route → Bytes → Bytes → Bytes → Result HttpAsk Refusal
+ask_by the.Requests caller path body = request_ask caller body
+ask_by the.Item caller path body = item_ask path
+ask_by the.Queue caller path body = Ok (Query query.Queue)
+ask_by the.FeedAfter caller path body = feed_ask path
+ask_by the.Frame caller path body = frame_ask path
+ask_by the.Receipts caller path body = receipt_ask path body
+ask_by the.Ingest caller path body = ingest_ask path body
+
+-- ---- requests
+
+-- the route, the caller's name, the names and numbers of the path, and then the body
+abbrev pub asking : HttpRequest → Result Asking Refusal
+asking r = do
+  route ← or_refused NoRoute (routed r.method r.target)
+  caller ← or_refused NoCaller r.user
+  ask ← ask_by route caller r.target r.body
+  Ok (record { caller = caller; ask = ask })
+
+-- what is asked is within the limits
+abbrev pub FitsAsk : HttpAsk → Type 0
+FitsAsk (Request caller number command) = FitsCommand command
+FitsAsk (Ingest provider incoming) = FitsIncoming incoming
+FitsAsk _ = Unit {0}

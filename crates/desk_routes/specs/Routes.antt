@@ -1,0 +1,70 @@
+-- Which route a request has.
+use Rattle.std.specs.Prelude.{[], codes, if◌then◌else◌, Option, Some, None, Result, Ok, Err}
+use Rattle.matchit.specs.Rows.{RowsOf}
+use Rattle.matchit.specs.Order.{placed}
+use Rattle.matchit.specs.Route.{Scan, parse_route}
+use Rattle.matchit.specs.Router.{RouteOf, route_from}
+use Rattle.matchit.specs.Seek.{first}
+use Rattle.matchit.specs.declared.error.InsertError.{InsertError}
+use Rattle.news_types.specs.Names.{Bytes, same}
+use Rattle.desk_routes.specs.declared.route.Route.{Route}
+use Rattle.desk_routes.specs.declared.route.Route.TheVariants.{Requests, Item, Queue, FeedAfter, Frame, Receipts, Ingest}
+
+-- what the paths of a route look like
+abbrev pub pattern_of : Route → Bytes
+pattern_of Requests = codes "/requests"
+pattern_of Item = codes "/items/{item}"
+pattern_of Queue = codes "/queue"
+pattern_of FeedAfter = codes "/feeds/{subscriber}/after/{k}"
+pattern_of Frame = codes "/feeds/{subscriber}/frames/{k}"
+pattern_of Receipts = codes "/feeds/{subscriber}/receipts"
+pattern_of Ingest = codes "/ingest/{provider}/ninjs"
+
+-- the one method of a route
+abbrev pub method_of : Route → Bytes
+method_of Requests = codes "POST"
+method_of Item = codes "GET"
+method_of Queue = codes "GET"
+method_of FeedAfter = codes "GET"
+method_of Frame = codes "GET"
+method_of Receipts = codes "POST"
+method_of Ingest = codes "POST"
+
+-- the rows of a router of routes
+abbrev pub Rows : Type 0
+Rows = RowsOf (RouteOf Route)
+
+abbrev pub with_read : Result Scan InsertError → Route → Rows → Rows
+with_read (Ok read) route rows = placed (read.pattern, route_from read route) rows
+with_read (Err error) route rows = rows
+
+-- with the row of this route among them
+abbrev pub with_route : Route → Rows → Rows
+with_route route rows = with_read (parse_route (pattern_of route)) route rows
+
+-- the rows of the seven routes
+abbrev pub seven : Rows
+seven =
+    with_route Ingest
+    (with_route Receipts
+    (with_route Frame
+    (with_route FeedAfter
+    (with_route Queue
+    (with_route Item
+    (with_route Requests []))))))
+
+abbrev pub value_of : Option (RouteOf Route) → Option Route
+value_of None = None
+value_of (Some row) = Some row.value
+
+-- the route of a path
+abbrev pub route_of : Bytes → Option Route
+route_of path = value_of (first seven path)
+
+abbrev pub if_method : Bytes → Option Route → Option Route
+if_method method None = None
+if_method method (Some route) = if same method (method_of route) then Some route else None
+
+-- the route that has this method and path
+abbrev pub routed : Bytes → Bytes → Option Route
+routed method path = if_method method (route_of path)

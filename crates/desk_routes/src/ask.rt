@@ -1,0 +1,221 @@
+//! What a request asks, or why it is refused before anything is asked.
+ghost use Rattle.std.specs.Prelude.{◌≡◌, IfOk};
+ghost use Rattle.desk_routes.specs.Asking as said;
+ghost use Rattle.desk_routes.specs.Asking.{FitsAsk, IsSaid, or_refused};
+ghost use Rattle.desk_routes.specs.Routes.{routed};
+ghost use Rattle.desk_routes.specs.declared.ask.Refusal.TheVariants.{NoRoute, NoCaller};
+
+use crate::path::{name_at, number_at};
+use crate::route::{Route, find_route};
+use desk_lines::{Asked, LineFault, LineProperty, read_receipt_body, read_request_body};
+use http_wire::HttpRequest;
+use news_types::{Command, Incoming, Name, Query};
+use ninjs_text::NinjsFault;
+use std::alloc::Global;
+
+/// What is asked of the room.
+#[derive(Drop)]
+pub enum HttpAsk {
+    /// A request: who makes it, its number, and the command.
+    Request {
+        caller: Name,
+        number: u64,
+        command: Command,
+    },
+    /// A question on the list as it is.
+    Query(Query),
+    /// A receipt: the subscriber has so many entries of its feed.
+    Receipt {
+        subscriber: Name,
+        n: u32,
+    },
+    /// An item of a provider.
+    Ingest {
+        provider: Name,
+        incoming: Incoming,
+    },
+}
+
+/// Who asks, and what.
+#[derive(Drop)]
+pub struct Asking {
+    pub caller: Name,
+    pub ask: HttpAsk,
+}
+
+/// Why a request is refused before anything is asked.
+#[derive(Clone, Copy, Debug, PartialEq, Eq)]
+pub enum Refusal {
+    /// No route has its method and path.
+    NoRoute,
+    /// It says no name of its caller.
+    NoCaller,
+    /// A name or a number in its path is none.
+    BadPath,
+    /// Its body is no line of the kind, for this first bad property.
+    BadBody { property: LineProperty },
+    /// Its body is no ninjs item, for this first fault.
+    BadItem { fault: NinjsFault },
+    /// There is no memory for it.
+    Memory,
+}
+
+/// Reads what a request asks.
+///
+/// # Errors
+///
+/// The first that holds of these: no route has its method and path, it has no caller, a name or a number in its path is
+/// none, its body is not of the form. Where there is no memory, `Memory` may come in their place.
+pub fn read_ask(alloc: Global, request: &HttpRequest) -> Result<Asking, Refusal>
+    ensures value { IsSaid (said.asking request.now) result }
+    ensures fits { IfOk result (λ asking. FitsAsk asking.ask) }
+{
+    let route = route_of(alloc, request)?;
+    let caller = caller_of(request)?;
+    let ask = ask_by(
+        alloc,
+        route,
+        caller,
+        request.target.as_str(),
+        request.body.as_slice(),
+    )?;
+    Ok(Asking { caller, ask })
+}
+
+fn route_of(alloc: Global, request: &HttpRequest) -> Result<Route, Refusal>
+    ensures { IsSaid (or_refused NoRoute (routed request.now.method request.now.target)) result }
+{
+    match find_route(alloc, &request.method, request.target.as_str()) {
+        Ok(Some(route)) => Ok(route),
+        Ok(None) => Err(Refusal::NoRoute),
+        Err(_) => Err(Refusal::Memory),
+    }
+}
+
+fn caller_of(request: &HttpRequest) -> Result<Name, Refusal>
+    ensures { result ≡ or_refused NoCaller request.now.user }
+{
+    match request.user {
+        Some(caller) => Ok(caller),
+        None => Err(Refusal::NoCaller),
+    }
+}
+
+/// What a caller asks by a route.
+fn ask_by(
+    alloc: Global,
+    route: Route,
+    caller: Name,
+    path: &str,
+    body: &[u8],
+) -> Result<HttpAsk, Refusal>
+    ensures value { IsSaid (said.ask_by route caller path.now body.now) result }
+    ensures fits { IfOk result FitsAsk }
+{
+    match route {
+        Route::Requests => request_ask(alloc, caller, body),
+        Route::Item => item_ask(path),
+        Route::Queue => Ok(HttpAsk::Query(Query::Queue)),
+        Route::FeedAfter => feed_ask(path),
+        Route::Frame => frame_ask(path),
+        Route::Receipts => receipt_ask(alloc, path, body),
+        Route::Ingest => ingest_ask(alloc, path, body),
+    }
+}
+
+fn needs_name(path: &str, slashes: usize) -> Result<Name, Refusal>
+    ensures { result ≡ said.name_at slashes path.now }
+{
+    match name_at(path, slashes) {
+        Some(name) => Ok(name),
+        None => Err(Refusal::BadPath),
+    }
+}
+
+fn needs_number(path: &str, slashes: usize) -> Result<u32, Refusal>
+    ensures { result ≡ said.number_at slashes path.now }
+{
+    match number_at(path, slashes) {
+        Some(number) => Ok(number),
+        None => Err(Refusal::BadPath),
+    }
+}
+
+fn item_ask(path: &str) -> Result<HttpAsk, Refusal>
+    ensures value { result ≡ said.item_ask path.now }
+    ensures fits { IfOk result FitsAsk }
+{
+    let item = needs_number(path, 2)?;
+    Ok(HttpAsk::Query(Query::Item { item }))
+}
+
+fn feed_ask(path: &str) -> Result<HttpAsk, Refusal>
+    ensures value { result ≡ said.feed_ask path.now }
+    ensures fits { IfOk result FitsAsk }
+{
+    let subscriber = needs_name(path, 2)?;
+    let after = needs_number(path, 4)?;
+    Ok(HttpAsk::Query(Query::Feed { subscriber, after }))
+}
+
+fn frame_ask(path: &str) -> Result<HttpAsk, Refusal>
+    ensures value { result ≡ said.frame_ask path.now }
+    ensures fits { IfOk result FitsAsk }
+{
+    let subscriber = needs_name(path, 2)?;
+    let k = needs_number(path, 4)?;
+    Ok(HttpAsk::Query(Query::Frame { subscriber, k }))
+}
+
+fn request_ask(alloc: Global, caller: Name, body: &[u8]) -> Result<HttpAsk, Refusal>
+    ensures value { IsSaid (said.request_ask caller body.now) result }
+    ensures fits { IfOk result FitsAsk }
+{
+    match read_request_body(alloc, caller, body) {
+        Ok(asked) => Ok(of_line(asked)),
+        Err(LineFault::Bad { property }) => Err(Refusal::BadBody { property }),
+        Err(LineFault::Memory) => Err(Refusal::Memory),
+    }
+}
+
+fn receipt_ask(alloc: Global, path: &str, body: &[u8]) -> Result<HttpAsk, Refusal>
+    ensures value { IsSaid (said.receipt_ask path.now body.now) result }
+    ensures fits { IfOk result FitsAsk }
+{
+    let subscriber = needs_name(path, 2)?;
+    match read_receipt_body(alloc, subscriber, body) {
+        Ok(asked) => Ok(of_line(asked)),
+        Err(LineFault::Bad { property }) => Err(Refusal::BadBody { property }),
+        Err(LineFault::Memory) => Err(Refusal::Memory),
+    }
+}
+
+fn ingest_ask(alloc: Global, path: &str, body: &[u8]) -> Result<HttpAsk, Refusal>
+    ensures value { IsSaid (said.ingest_ask path.now body.now) result }
+    ensures fits { IfOk result FitsAsk }
+{
+    let provider = needs_name(path, 2)?;
+    match ninjs_text::read(alloc, body) {
+        Ok(incoming) => Ok(HttpAsk::Ingest { provider, incoming }),
+        Err(NinjsFault::Memory) => Err(Refusal::Memory),
+        Err(fault) => Err(Refusal::BadItem { fault }),
+    }
+}
+
+fn of_line(asked: Asked) -> HttpAsk
+    ensures { result ≡ said.of_line asked }
+{
+    match asked {
+        Asked::Request {
+            caller,
+            number,
+            command,
+        } => HttpAsk::Request {
+            caller,
+            number,
+            command,
+        },
+        Asked::Query(query) => HttpAsk::Query(query),
+        Asked::Receipt { subscriber, n } => HttpAsk::Receipt { subscriber, n },
+    }
+}

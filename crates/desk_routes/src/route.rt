@@ -1,0 +1,105 @@
+//! The routes of requests.
+ghost use Rattle.std.specs.Prelude.{◌≡◌, IfOk, OnOk};
+ghost use Rattle.desk_routes.specs.Routes.{if_method, method_of, pattern_of, route_of, routed, seven, with_route};
+
+use http::Method;
+use matchit::Router;
+use news_types::Memory;
+use std::alloc::Global;
+
+/// What a request may be for.
+#[derive(Clone, Copy, Debug, PartialEq, Eq)]
+pub enum Route {
+    Requests,
+    Item,
+    Queue,
+    FeedAfter,
+    Frame,
+    Receipts,
+    Ingest,
+}
+
+impl Route {
+    /// What its paths look like.
+    pub fn pattern(self) -> &'static str
+        ensures { result.now ≡ pattern_of self }
+    {
+        match self {
+            Route::Requests => "/requests",
+            Route::Item => "/items/{item}",
+            Route::Queue => "/queue",
+            Route::FeedAfter => "/feeds/{subscriber}/after/{k}",
+            Route::Frame => "/feeds/{subscriber}/frames/{k}",
+            Route::Receipts => "/feeds/{subscriber}/receipts",
+            Route::Ingest => "/ingest/{provider}/ninjs",
+        }
+    }
+
+    /// Its one method.
+    pub fn method(self) -> &'static str
+        ensures { result.now ≡ method_of self }
+    {
+        match self {
+            Route::Requests | Route::Receipts | Route::Ingest => "POST",
+            Route::Item | Route::Queue | Route::FeedAfter | Route::Frame => "GET",
+        }
+    }
+}
+
+/// Adds a route to a router.
+fn put(router: &mut Router<Route>, route: Route) -> Result<(), Memory>
+    ensures { OnOk result (router.new ≡ with_route route router.old) }
+{
+    match router.insert(route.pattern(), route) {
+        Ok(()) => Ok(()),
+        Err(_) => Err(Memory),
+    }
+}
+
+/// The router of the seven routes.
+fn router_of_all(alloc: Global) -> Result<Router<Route>, Memory>
+    ensures { IfOk result (λ router. router ≡ seven) }
+{
+    let mut router = Router::new(alloc);
+    put(&mut router, Route::Requests)?;
+    put(&mut router, Route::Item)?;
+    put(&mut router, Route::Queue)?;
+    put(&mut router, Route::FeedAfter)?;
+    put(&mut router, Route::Frame)?;
+    put(&mut router, Route::Receipts)?;
+    put(&mut router, Route::Ingest)?;
+    Ok(router)
+}
+
+/// The route of a path.
+fn route_at(router: &Router<Route>, path: &str) -> Option<Route>
+    requires { router.now ≡ seven }
+    ensures { result ≡ route_of path.now }
+{
+    match router.at(path) {
+        Ok(found) => Some(*found.value),
+        Err(_) => None,
+    }
+}
+
+/// The route that has this method and path, if there is one.
+pub fn find_route(alloc: Global, method: &Method, path: &str) -> Result<Option<Route>, Memory>
+    ensures { IfOk result (λ found. found ≡ routed method.now path.now) }
+{
+    let router = router_of_all(alloc)?;
+    match route_at(&router, path) {
+        None => Ok(None),
+        Some(route) => Ok(if_method(method, route)),
+    }
+}
+
+/// The route, where the method is its own.
+fn if_method(method: &Method, route: Route) -> Option<Route>
+    ensures { result ≡ if_method method.now (Some route) }
+{
+    if method.as_str() == route.method() {
+        Some(route)
+    } else {
+        None
+    }
+}
