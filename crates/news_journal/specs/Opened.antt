@@ -1,5 +1,5 @@
 -- What the parts of a log are read as.
-use Rattle.std.specs.Prelude.{◌≡◌, ◌≢◌, ℕ, suc, ◌+◌, ◌-◌, ◌≤◌, ◌<◌, ◌^◌, List, ◌∷◌, ◌++◌, length, take, drop, Option, Some, None, Result, Ok, Err, Vec, map, All, IsTrue, replicate}
+use Rattle.std.specs.Prelude.{◌≡◌, ◌≢◌, ℕ, suc, ◌+◌, ◌-◌, ◌≤◌, ◌<◌, ◌^◌, List, ◌∷◌, ◌++◌, length, take, drop, Option, Some, None, Result, Ok, Err, Vec, map, All, IsTrue, replicate, false}
 use Rattle.std.specs.Int.{w32, to_be_bytes}
 use Rattle.std.specs.declared.alloc.Global.{Global}
 use Rattle.news_io.specs.Faults.{Rose}
@@ -107,6 +107,10 @@ pub record IsLog (header : Header) (rs : List (ℕ × Bytes)) (file : List ℕ) 
   pub whole : damage file ≡ None
   pub head : IsHead header (take 64 file)
   pub reads : reading (length file) 64 (drop 64 file) ≡ Holding rs
+
+-- a record of a log, and not of its side
+abbrev pub IsOfLog : Record → Type 0
+IsOfLog r = r.side ≡ false
 
 -- fewer than 2^30, each before that place
 pub record AreFew (rs : List Record) : Type 0 where

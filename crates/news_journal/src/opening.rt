@@ -1,12 +1,12 @@
 //! Opening a log: everything is synced, and then read ahead in large pieces.
-ghost use Rattle.std.specs.Prelude.{◌≡◌, ◌<◌, ◌≤◌, ◌+◌, ◌^◌, [], List, ℕ, false, None, length, take, drop, OnOk, IfOk, IfErr, IfSome};
+ghost use Rattle.std.specs.Prelude.{All, ◌≡◌, ◌<◌, ◌≤◌, ◌+◌, ◌^◌, [], List, ℕ, false, None, length, take, drop, OnOk, IfOk, IfErr, IfSome};
 ghost use Rattle.news_io.specs.Disk.{Only};
 ghost use Rattle.news_io.specs.Moments.{Elapses};
 ghost use Rattle.news_journal.specs.Log.{IsHead, records as log_records};
 ghost use Rattle.news_journal.specs.Damage.{damage};
 ghost use Rattle.news_journal.specs.Stands.{disk_of, head_of};
 ghost use Rattle.news_journal.specs.Window.{Shows};
-ghost use Rattle.news_journal.specs.Opened.{Still, FaultCounts, IsDamage, LooksAs, HeadAs, PayloadAs, ReadsAs, RecordsAs, HoldsRecords, IsLog, AreFew, payloads, places};
+ghost use Rattle.news_journal.specs.Opened.{Still, FaultCounts, IsDamage, LooksAs, HeadAs, PayloadAs, ReadsAs, RecordsAs, HoldsRecords, IsLog, IsOfLog, AreFew, payloads, places};
 ghost use Rattle.news_journal.specs.Journal.{journal_of};
 
 use crate::heading::read_header;
@@ -152,6 +152,7 @@ pub fn read_records<D: Disk>(
     ensures place { IfOk result (λ o. o.0 ≡ 64 + length (log_records (payloads o.1.items))) }
     ensures small { IfOk result (λ o. o.0 < 2 ^ 30) }
     ensures few { IfOk result (λ o. AreFew o.1.items) }
+    ensures of_log { IfOk result (λ o. All IsOfLog o.1.items) }
     ensures still { Still D.disk disk.old disk.new }
     ensures fault { IfErr result (FaultCounts (D.disk.faults disk.old) (D.disk.faults disk.new)) }
     ensures calm { OnOk result (D.disk.faults disk.new ≡ D.disk.faults disk.old) }
@@ -190,6 +191,7 @@ fn read_log<D: Disk>(alloc: Global, disk: &mut D) -> Result<Log, OpenFault>
     ensures place { IfOk result (λ o. o.gate ≡ 64 + length (log_records (payloads o.records.items))) }
     ensures small { IfOk result (λ o. o.gate < 2 ^ 30) }
     ensures few { IfOk result (λ o. AreFew o.records.items) }
+    ensures of_log { IfOk result (λ o. All IsOfLog o.records.items) }
     ensures still { Still D.disk disk.old disk.new }
     ensures fault { IfErr result (FaultCounts (D.disk.faults disk.old) (D.disk.faults disk.new)) }
     ensures calm { OnOk result (D.disk.faults disk.new ≡ D.disk.faults disk.old) }
@@ -217,6 +219,7 @@ fn load<D: Disk>(alloc: Global, disk: &mut D) -> Result<Log, OpenFault>
     ensures place { IfOk result (λ o. o.gate ≡ 64 + length (log_records (payloads o.records.items))) }
     ensures small { IfOk result (λ o. o.gate < 2 ^ 30) }
     ensures few { IfOk result (λ o. AreFew o.records.items) }
+    ensures of_log { IfOk result (λ o. All IsOfLog o.records.items) }
     ensures still { D.disk.tells disk.old → Still D.disk disk.old disk.new }
     ensures fault { IfErr result (FaultCounts (D.disk.faults disk.old) (D.disk.faults disk.new)) }
     ensures calm { OnOk result (D.disk.faults disk.new ≡ D.disk.faults disk.old) }
@@ -233,6 +236,7 @@ impl<D: Disk> Journal<D> {
         ensures log { D.disk.tells disk → IfOk result (λ o. IsLog o.header (places o.records) (D.disk.seen disk)) }
         ensures damage { D.disk.tells disk → IfErr result (λ e. IsDamage (damage (D.disk.seen disk)) e.1) }
         ensures few { IfOk result (λ o. AreFew o.records) }
+        ensures of_log { IfOk result (λ o. All IsOfLog o.records) }
         ensures head { D.disk.tells disk → IfOk result (λ o. head_of o.journal ≡ take 64 (D.disk.seen disk)) }
         // The keeper holds the records, and nothing is in doubt.
         ensures tells { D.disk.tells disk → IfOk result (λ o. (journal_of D.disk).tells o.journal) }

@@ -8,6 +8,7 @@ mod Sides
 mod Heads
 mod Stops
 mod WereRead
+mod Placed
 mod Sizes
 mod Ordering
 mod Chains

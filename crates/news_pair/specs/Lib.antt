@@ -8,6 +8,7 @@ pub mod PackFaults
 pub mod Packed
 pub mod Packing
 pub mod Pair
+pub mod Placed
 pub mod Segments
 pub mod Stands
 pub mod Steps

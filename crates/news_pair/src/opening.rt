@@ -6,6 +6,7 @@ ghost use Rattle.news_io.specs.Faults.{Counts, Rose};
 ghost use Rattle.news_journal.specs.Log.{records as log_records};
 ghost use Rattle.news_journal.specs.Opened.{Still, AreFew, payloads};
 ghost use Rattle.news_pair.specs.Pair.{HasNoRecord, PairOpens};
+ghost use Rattle.news_pair.specs.Placed.{pair_records};
 ghost use Rattle.news_pair.specs.Stands.{log_disk, side_disk, IsRoomHead, Pairs};
 ghost use Rattle.news_pair.specs.Damage.{pair_damage, Judged, IsPairDamage};
 ghost use Rattle.news_pair.specs.Faults.{FaultCounts};
@@ -75,6 +76,7 @@ fn load_both<D: Disk>(alloc: Global, log: &mut D, side: &mut D) -> Result<Loaded
     ensures durable { D.disk.tells log.old → OnOk result (Only (D.disk.seen log.new) (D.disk.may_leave log.new)) }
     ensures durable_side { D.disk.tells side.old → OnOk result (Only (D.disk.seen side.new) (D.disk.may_leave side.new)) }
     ensures loaded { D.disk.tells log.old → D.disk.tells side.old → IfOk result (λ o. IsLoaded o (D.disk.seen log.old) (D.disk.seen side.old)) }
+    ensures placed { D.disk.tells log.old → D.disk.tells side.old → IfOk result (λ o. o.gathered.records.items ≡ pair_records (D.disk.seen log.old) (D.disk.seen side.old)) }
     ensures head { IfOk result (λ o. IsRoomHead o.head.bytes o.head.store o.head.base) }
     ensures used { IfOk result (λ o. o.gathered.used ≡ 65 + length (log_records (payloads o.gathered.records.items))) }
     ensures few { IfOk result (λ o. AreFew o.gathered.records.items) }
@@ -138,6 +140,8 @@ impl<D: Disk> Pair<D> {
     /// Where the log has no record and another base than the number of the side's entries, that is written to it.
     pub fn open(alloc: Global, mut log: D, mut side: D) -> Result<OpenedPair<D>, (D, D, PairFault)>
         ensures opens { D.disk.tells log → D.disk.tells side → IfOk result (λ o. OpensAs o.header o.records (D.disk.seen log) (D.disk.seen side)) }
+        // Each record has the place of its gate, and those of the side the place of their segment's.
+        ensures records { D.disk.tells log → D.disk.tells side → IfOk result (λ o. o.records ≡ pair_records (D.disk.seen log) (D.disk.seen side)) }
         // Ok is answered only where the files are a pair, and damage is the first that shows that they are none.
         ensures whole { D.disk.tells log → D.disk.tells side → OnOk result (pair_damage (D.disk.seen log) (D.disk.seen side) ≡ None) }
         ensures damage { D.disk.tells log → D.disk.tells side → IfErr result (λ e. IsPairDamage (pair_damage (D.disk.seen log) (D.disk.seen side)) e.2) }
@@ -154,6 +158,8 @@ impl<D: Disk> Pair<D> {
             (λ (c : List ℕ). D.disk.may_leave log c ⊎ OpensStill (D.disk.seen log) (D.disk.seen side) (D.disk.may_leave (side_disk o.pair)) c)) }
         ensures crash_err { D.disk.tells log → D.disk.tells side → IfErr result (λ e. DiskGains D.disk log e.0
             (λ (c : List ℕ). D.disk.may_leave log c ⊎ OpensStill (D.disk.seen log) (D.disk.seen side) (D.disk.may_leave e.1) c)) }
+        // Only the base of a log is ever written: where that did not fail, an error leaves both files as they are.
+        ensures still_log_err { D.disk.tells log → IfErr result (λ e. (e.2 ≢ DiskFault) → Still D.disk log e.0) }
         ensures still { D.disk.tells side → IfOk result (λ o. Still D.disk side (side_disk o.pair)) }
         ensures still_err { D.disk.tells side → IfErr result (λ e. Still D.disk side e.1) }
         ensures calm { IfOk result (λ o. (pair_of D.disk).faults o.pair ≡ D.disk.faults log + D.disk.faults side) }

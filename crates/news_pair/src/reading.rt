@@ -1,8 +1,9 @@
 //! Reading a log and its side.
-ghost use Rattle.std.specs.Prelude.{◌≡◌, [], ◌*◌, All, false, true, ◌<◌, ◌≤◌, ◌+◌, ◌^◌, length, slice_get, OnOk, IfOk, IfErr, IfSome};
+ghost use Rattle.std.specs.Prelude.{◌≡◌, [], ◌*◌, All, false, true, ◌<◌, ◌≤◌, ◌+◌, ◌^◌, length, slice_get, unwrap_or, OnOk, IfOk, IfErr, IfSome};
 ghost use Rattle.news_journal.specs.Log.{records as log_records};
-ghost use Rattle.news_journal.specs.Opened.{Still, AreFew, payloads, places};
+ghost use Rattle.news_journal.specs.Opened.{Still, IsOfLog, AreFew, payloads, places};
 ghost use Rattle.news_pair.specs.Pair.{AreSegments, packed_by};
+ghost use Rattle.news_pair.specs.Placed.{side_records, all_records, pair_records};
 ghost use Rattle.news_pair.specs.Stands.{IsRoomHead};
 ghost use Rattle.news_pair.specs.Damage.{records_in, log_damage, segments_damage, list_damage, pair_damage, on_log, Judged};
 ghost use Rattle.news_pair.specs.Faults.{IsDiskFault, FaultCounts};
@@ -37,6 +38,7 @@ pub fn read_room<D: Disk>(alloc: Global, disk: &mut D) -> Result<RoomLog, PairFa
     ensures place { IfOk result (λ o. o.gate ≡ 64 + length (log_records (payloads o.records.items))) }
     ensures small { IfOk result (λ o. o.gate < 2 ^ 30) }
     ensures few { IfOk result (λ o. AreFew o.records.items) }
+    ensures of_log { IfOk result (λ o. All IsOfLog o.records.items) }
     ensures still { Still D.disk disk.old disk.new }
     ensures fault { IfErr result (FaultCounts (D.disk.faults disk.old) (D.disk.faults disk.new)) }
     ensures calm { OnOk result (D.disk.faults disk.new ≡ D.disk.faults disk.old) }
@@ -64,6 +66,7 @@ fn entries_beside(
     ensures bare { OnOk result (BareBase found head.now.base) }
     ensures end { IfOk result (λ o. o.0 ≡ end_of found) }
     ensures entries { IfOk result (λ o. payloads o.1.items ≡ packed_by (segments_of found)) }
+    ensures placed { IfOk result (λ o. o.1.items ≡ side_records (unwrap_or (places_of found) [])) }
     ensures few { IfOk result (λ o. 2 * length o.1.items ≤ length (log_records (segments_of found))) }
     ensures at { IfOk result (λ o. All (λ r. r.at < 2 ^ 30) o.1.items) }
     ensures fault { IfErr result (λ e. IsDiskFault e → ⊥) }
@@ -97,6 +100,7 @@ pub fn gather(
     requires size_log { length (log_records (payloads log.items)) < 2 ^ 30 }
     ensures judged { Judged (list_damage head.now.base (slice_get head.now.bytes 10) (places log.items) (places_of found)) result }
     ensures gathered { IfOk result (λ o. IsGathered head.now.base (payloads log.items) found o.packed o.end o.used (payloads o.records.items)) }
+    ensures placed { All IsOfLog log.items → IfOk result (λ o. o.records.items ≡ all_records head.now.base (places log.items) (places_of found)) }
     ensures room { IfOk result (λ o. 65 + length (log_records (payloads log.items)) ≤ o.used) }
     ensures small { IfOk result (λ o. o.used < 2 ^ 62) }
     ensures few { IfOk result (λ o. o.packed ≤ o.end) }
@@ -130,6 +134,7 @@ fn has_none(records: &[Record]) -> bool
 pub fn read_both<D: Disk>(alloc: Global, log: &mut D, side: &mut D) -> Result<Loaded, PairFault>
     ensures judged { D.disk.tells log.old → D.disk.tells side.old → Judged (pair_damage (D.disk.seen log.old) (D.disk.seen side.old)) result }
     ensures loaded { D.disk.tells log.old → D.disk.tells side.old → IfOk result (λ o. IsLoaded o (D.disk.seen log.old) (D.disk.seen side.old)) }
+    ensures placed { D.disk.tells log.old → D.disk.tells side.old → IfOk result (λ o. o.gathered.records.items ≡ pair_records (D.disk.seen log.old) (D.disk.seen side.old)) }
     ensures head { IfOk result (λ o. IsRoomHead o.head.bytes o.head.store o.head.base) }
     ensures used { IfOk result (λ o. o.gathered.used ≡ 65 + length (log_records (payloads o.gathered.records.items))) }
     ensures few { IfOk result (λ o. AreFew o.gathered.records.items) }

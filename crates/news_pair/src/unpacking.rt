@@ -1,9 +1,10 @@
 //! The entries of a side.
-ghost use Rattle.std.specs.Prelude.{◌≡◌, ◌<◌, ◌≤◌, ◌*◌, ◌^◌, ◌++◌, [], None, Some, All, length, OnOk, IfOk, IfErr};
+ghost use Rattle.std.specs.Prelude.{◌≡◌, ◌<◌, ◌≤◌, ◌*◌, ◌^◌, ◌++◌, [], None, Some, All, length, map, OnOk, IfOk, IfErr};
 ghost use Rattle.news_journal.specs.Log.{records as log_records};
 ghost use Rattle.std.specs.Option.{option_or};
 ghost use Rattle.news_journal.specs.Opened.{payloads, places, AreFew};
 ghost use Rattle.news_pair.specs.Pair.{AreSegments, packed_by};
+ghost use Rattle.news_pair.specs.Placed.{packed_record, side_records};
 ghost use Rattle.news_pair.specs.Segments.{segment_in};
 ghost use Rattle.news_pair.specs.Damage.{first_of, no_segment, misplaced, on_side, Judged};
 ghost use Rattle.news_pair.specs.Unpacking.{earlier_or};
@@ -18,6 +19,7 @@ use std::alloc::{AllocError, Global};
 /// Adds the entries of the segment behind this gate.
 fn add_entries(entries: &mut Vec<Record>, at: u64, segment: Vec<Bytes>) -> Result<(), AllocError>
     ensures items { OnOk result (payloads entries.new.items ≡ payloads entries.old.items ++ segment.items) }
+    ensures placed { OnOk result (entries.new.items ≡ entries.old.items ++ map (packed_record at) segment.items) }
     ensures at { at < 2 ^ 30 → All (λ r. r.at < 2 ^ 30) entries.old.items → OnOk result (All (λ r. r.at < 2 ^ 30) entries.new.items) }
 {
     for bytes in segment {
@@ -65,6 +67,7 @@ pub fn unpack_all(alloc: Global, segments: &[Record]) -> Result<Vec<Record>, Pai
     ensures judged { Judged (option_or (on_side (first_of no_segment (places segments.now))) (on_side (misplaced 0 (places segments.now)))) result }
     ensures are { OnOk result (AreSegments 0 (payloads segments.now)) }
     ensures entries { IfOk result (λ entries. payloads entries.items ≡ packed_by (payloads segments.now)) }
+    ensures placed { IfOk result (λ entries. entries.items ≡ side_records (places segments.now)) }
     ensures few { IfOk result (λ entries. 2 * length entries.items ≤ length (log_records (payloads segments.now))) }
     ensures at { IfOk result (λ entries. All (λ r. r.at < 2 ^ 30) entries.items) }
     ensures fault { IfErr result (λ e. IsDiskFault e → ⊥) }

@@ -3,7 +3,7 @@ use Rattle.std.specs.Prelude.{All}
 use Rattle.std.proofs.lemmas.List.Elements.{All-push}
 use Rattle.std.proofs.lemmas.Result.{err_from_is_err_and}
 use Rattle.news_io.specs.declared.record.Record.{Record}
-use Rattle.news_journal.specs.Opened.{ReadsAs}
+use Rattle.news_journal.specs.Opened.{ReadsAs, IsOfLog}
 use Rattle.news_journal.specs.Window.{Shows}
 use Rattle.news_journal.proofs.Pieces.{still_then}
 use Rattle.news_journal.proofs.Progress.{SoFar, ended, one_further, one_longer, fault_reads}
@@ -26,6 +26,7 @@ loop-records-preserved g c =
       small = omega (arith, room, ap length c.as_slice.ensures);
       count = omega (arith, inv.count, ap length c.in_ok-push.ensures.items, length-append c.loop-records.records.items (record { at = c.loop-records.gate; side = false; bytes = c.in-Some.bytes } ∷ []));
       at = subst (All (λ (r : Record). r.at < 2 ^ 30)) (sym c.in_ok-push.ensures.items) (All-push (λ (r : Record). r.at < 2 ^ 30) c.loop-records.records.items (record { at = c.loop-records.gate; side = false; bytes = c.in-Some.bytes }) inv.at inv.small);
+      of_log = subst (All IsOfLog) (sym c.in_ok-push.ensures.items) (All-push IsOfLog c.loop-records.records.items (record { at = c.loop-records.gate; side = false; bytes = c.in-Some.bytes }) inv.of_log refl);
       still = still_then _ _ _ _ inv.still c.read_record.ensures.still;
       calm = c.in_ok-bytes.ensures.calm ∙ inv.calm;
       shows = λ told shows.

@@ -1,6 +1,6 @@
-use Rattle.std.proofs.Common.{◌≡◌, ◌∙◌, ap, subst, arith, Some, None, List, Option}
+use Rattle.std.proofs.Common.{◌≡◌, ◌∙◌, sym, [], ap, subst, arith, Some, None, List, Option}
 use Rattle.std.proofs.lemmas.Result.{err_from_is_err_and}
-use Rattle.std.specs.Prelude.{slice_get}
+use Rattle.std.specs.Prelude.{slice_get, unwrap_or}
 use Rattle.std.specs.Option.{option_or}
 use Rattle.news_io.specs.declared.record.Record.{Record}
 use Rattle.news_journal.specs.Opened.{places}
@@ -8,6 +8,7 @@ use Rattle.news_pair.specs.Opened.{places_of}
 use Rattle.news_pair.specs.declared.side_reading.SideLog.{SideLog}
 use Rattle.news_pair.specs.declared.fault.PairFault.TheVariants.{Damaged}
 use Rattle.news_pair.specs.Damage.{first_of, no_segment, misplaced, on_side, segments_damage, IsPairDamage}
+use Rattle.news_pair.specs.Placed.{side_records}
 use Rattle.news_pair.proofs.Rows.{get_there}
 use Rattle.news_pair.proofs.Judging.{bare_other, bare_zero, of_segments, judged_by}
 use Rattle.news_pair.proofs.reading.entries_beside.Goals as goal
@@ -44,3 +45,9 @@ returns-clause-judged c =
     ap (λ (f : Option SideLog). segments_damage base byte (places_of f)) c.in-Some.is
     ∙ of_segments base byte rs
     ∙ subst (λ (l : List Record). option_or (on_side (first_of no_segment (places l))) (on_side (misplaced 0 (places l))) ≡ None) c.deref.ensures.value c.in_ok-entries.ensures.judged
+
+pub returns-clause-placed : goal.returns-clause-placed
+returns-clause-placed c =
+    c.in_ok-entries.ensures.placed
+    ∙ ap (λ (l : List Record). side_records (places l)) c.deref.ensures.value
+    ∙ ap (λ (f : Option SideLog). side_records (unwrap_or (places_of f) [])) (sym c.in-Some.is)

@@ -4,16 +4,17 @@ use Rattle.news_io.specs.declared.record.Record.{Record}
 use Rattle.news_journal.specs.Log.{records}
 use Rattle.news_journal.specs.Opened.{payloads}
 use Rattle.news_pair.specs.Pair.{Joined}
-use Rattle.news_pair.specs.Opened.{MeetsOrEmpty}
+use Rattle.news_pair.specs.Opened.{MeetsOrEmpty, places_of}
 use Rattle.news_pair.proofs.Rows.{length-payloads}
 use Rattle.news_pair.proofs.WereRead.{gathered, meets_joined, meets_room}
 use Rattle.std.proofs.lemmas.Result.{err_from_is_err_and}
-use Rattle.std.specs.Prelude.{slice_get, Some}
+use Rattle.std.specs.Prelude.{[], slice_get, Some, unwrap_or}
 use Rattle.news_journal.specs.Opened.{places}
 use Rattle.news_pair.specs.Damage.{first_of, no_entry, on_log, meeting_damage, IsPairDamage}
 use Rattle.news_pair.proofs.Rows.{get_there}
 use Rattle.news_pair.proofs.Judging.{list_first, list_second, list_third, list_whole}
 use Rattle.news_pair.proofs.Sizes.{all_few, side_ends}
+use Rattle.news_pair.proofs.Placed.{placed_both}
 use Rattle.news_pair.proofs.reading.gather.Goals as goal
 
 pub returns-clause-gathered : goal.returns-clause-gathered
@@ -94,3 +95,8 @@ returns-clause-near c = let ends = side_ends c.args.found c.requires.place c.req
 pub returns-clause-all_few : goal.returns-clause-all_few
 returns-clause-all_few c =
     all_few c.in_ok-end.side.items c.args.log.items c.saturating_sub-skip.result c.in_ok-records.records.items c.in_ok-records.ensures (omega (arith, c.in_ok-end.ensures.few, c.requires.size)) c.requires.size_log c.in_ok-end.ensures.at c.requires.few_log
+
+pub returns-clause-placed : goal.returns-clause-placed
+returns-clause-placed c = λ of_log.
+    let skip : c.saturating_sub-skip.result ≡ length c.in_ok-end.side.items - c.args.head.now.base = omega (arith, c.saturating_sub-skip.ensures, c.len-packed.ensures) in
+    placed_both c.args.head.now.base c.saturating_sub-skip.result c.in_ok-end.side.items c.args.log.items c.in_ok-records.records.items (unwrap_or (places_of c.args.found) []) of_log c.in_ok-end.ensures.placed c.in_ok-records.ensures skip

@@ -7,6 +7,7 @@ use Rattle.news_journal.specs.Opened.{payloads, places}
 use Rattle.news_pair.specs.Pair.{Joined}
 use Rattle.news_pair.specs.Opened.{places_of}
 use Rattle.news_pair.proofs.WereRead.{side_stands, side_base, side_packed, side_small, store_read, base_read, byte_read, pair_first, pair_second, pair_third, pair_whole}
+use Rattle.news_pair.proofs.Placed.{placed_pair}
 use Rattle.news_pair.proofs.reading.read_both.Goals as goal
 
 pub returns-in_err-head-clause-judged : goal.returns-in_err-head-clause-judged
@@ -74,3 +75,12 @@ gather-requires-clause-size g c = side_small c.in_ok-found.found c.in_ok-found.e
 
 pub gather-requires-clause-size_log : goal.gather-requires-clause-size_log
 gather-requires-clause-size_log g c = omega (arith, c.in_ok-head.ensures.place, c.in_ok-head.ensures.small)
+
+pub returns-clause-placed : goal.returns-clause-placed
+returns-clause-placed g c = λ told told'.
+    let room = c.in_ok-head.field-0 in
+    let r = c.in_ok-head.ensures in
+    let log = g.D.Disk.disk.seen c.args.log.now in
+    placed_pair log (g.D.Disk.disk.seen c.args.side.now) room.head.base (places room.records.items) (places_of c.in_ok-found.found) c.in_ok-gathered.gathered.records.items
+    (base_read room.head.bytes room.head.store room.head.base room.gate (payloads room.records.items) log r.head (r.reads told))
+    (r.records told) (c.in_ok-found.ensures.records told') (c.in_ok-gathered.ensures.placed r.of_log)

@@ -9,6 +9,7 @@ use Rattle.news_pair.specs.Unpacking.{earlier_or}
 use Rattle.news_pair.proofs.Judging.{FromHere, none_earlier, first_passed, first_on_side, places_step, place_step, side_none, or_first}
 use Rattle.news_journal.specs.Log.{records}
 use Rattle.news_pair.proofs.Journals.{records_longer}
+use Rattle.news_pair.proofs.Placed.{side_more}
 use Rattle.news_pair.proofs.unpacking.unpack_all.Goals as goal
 
 pub loop-kept-preserved : goal.loop-kept-preserved
@@ -29,6 +30,7 @@ loop-kept-preserved c =
     let count : length c.loop-kept.entries.items ≡ c.len.result = omega (arith, c.len.ensures) in
     record {
       entries = c.in_ok-add_entries.ensures.items ∙ segment_more before kept.bytes segment.base segment.payloads.items entries found c.loop-kept.invariant.entries ∙ ap packed_by (sym more);
+      stand = side_more segments i kept segment.base segment.payloads.items c.loop-kept.entries.items c.add_entries.new.entries.items c.loop-kept-test.true c.kept-item.is found c.loop-kept.invariant.stand c.in_ok-add_entries.ensures.placed;
       placed = λ none.
           let m = none_earlier _ _ _ _ (sym c.first_misplaced-misplaced.ensures ∙ none) in
           let place : segment.base ≡ length entries = omega (arith, m.1, c.len.ensures, length-payloads c.loop-kept.entries.items) in
