@@ -20,20 +20,24 @@ use Rattle.news_types.proofs.Members.{same_is, same_self}
 use Rattle.news_types.proofs.Dues.{release_from}
 use Rattle.publish_queue.specs.declared.feed.Delivery.{Delivery}
 use Rattle.publish_queue.specs.declared.feed.Feed.{Feed}
+use Rattle.publish_queue.specs.declared.release.Span.{Span}
 use Rattle.publish_queue.specs.declared.turns.Turns.{Turns}
+use Rattle.publish_queue.specs.Rows.{has_number}
 use Rattle.publish_queue.specs.Ready.{row_turn}
 use Rattle.publish_queue.specs.Steps.{SameDelivery, IsEmptyFeed, IsAdded, IsWithdrawn}
 use Rattle.publish_queue.specs.Turns.{one}
-use Rattle.publish_queue.specs.Many.{Sets, EachGoes, OneGoes, Spread, IsSame, IsAddedTo, IsAdvancedTo, IsDeliveredTo, IsOrdered, turn_in, turn_count, name_of, release_by}
+use Rattle.publish_queue.specs.Many.{Sets, EachGoes, OneGoes, Spread, IsSame, IsAddedTo, IsAdvancedTo, IsDeliveredTo, IsWithdrawnBy, IsOrdered, turn_in, turn_count, name_of, release_by}
 use Rattle.publish_queue.specs.Keeps.{IsRow, Stands, IsFeed, IsSetTo, IsUntouched, IsFair, number_of}
 use Rattle.publish_queue.proofs.Ascending as ascending
 use Rattle.publish_queue.proofs.ByName.{names_order}
 use Rattle.publish_queue.proofs.Entries.{get_map}
 use Rattle.publish_queue.proofs.Many.{Found, name_at, here_named, other_named}
 use Rattle.publish_queue.proofs.InTurn.{holds_same}
-use Rattle.publish_queue.proofs.OneFeed.{is_row_alike, is_row_still, is_row_advanced, is_row_added, rising_waiting, due_passed, feed_stays}
+use Rattle.publish_queue.proofs.OneFeed.{is_row_alike, is_row_still, is_row_advanced, is_row_added, due_passed, feed_stays}
 use Rattle.publish_queue.proofs.Comings.{HasWaiting, feed_still}
 use Rattle.publish_queue.proofs.Turning.{turn_is}
+use Rattle.publish_queue.specs.Withdrawn.{AreWithin}
+use Rattle.publish_queue.proofs.Spanned.{numbers_withdrawn}
 use Rattle.publish_queue.proofs.Withdrawal.{Leaves, feed_left, is_row_withdrawn}
 
 pub on_ok : {T E : Type 0} {P Q : Type 0} (r : Result T E) → OnOk r P → (P → Q) → OnOk r Q
@@ -140,7 +144,7 @@ module _ {acked tries tried : Bytes → ℕ} where
       }
 
   -- some of what waits is left
-  pub is_feed_withdrawn : (m : ℕ) (numbers : List ℕ) (ps qs : List Pub) (f g : Feed) → Leaves m numbers f.name ps qs → IsFeed ps m acked tries tried f → IsWithdrawn numbers f g → IsFeed qs m acked tries tried g
+  pub is_feed_withdrawn : (m : ℕ) (numbers : List ℕ) (ps qs : List Pub) (f g : Feed) → Leaves m numbers f.name ps qs → IsFeed ps m acked tries tried f → IsWithdrawn (has_number numbers) f g → IsFeed qs m acked tries tried g
   is_feed_withdrawn m numbers ps qs f g leaves is step =
       let stands : Stands acked tries tried g = stands_same acked tries tried f g step.delivery is.stands in
       record {
@@ -149,6 +153,9 @@ module _ {acked tries tried : Bytes → ℕ} where
         turn = step.turn ∙ is.turn ∙ ap (λ l. ready_from (slice_get l (acked f.name)) (tries f.name) (tried f.name)) (sym (feed_left m numbers f.name ps qs leaves))
             ∙ ap (λ s. ready_from (slice_get (feed_of qs m s) (acked s)) (tries s) (tried s)) (sym step.delivery.name);
       }
+
+  pub is_feed_spanned : (m : ℕ) (numbers : List ℕ) (spans : List Span) (ps qs : List Pub) (f g : Feed) → Leaves m numbers f.name ps qs → AreWithin m numbers spans ps → IsFeed ps m acked tries tried f → IsWithdrawnBy numbers spans f g → IsFeed qs m acked tries tried g
+  is_feed_spanned m numbers spans ps qs f g leaves within is step = is_feed_withdrawn m numbers ps qs f g leaves is (numbers_withdrawn m numbers spans ps f g within is.rows step)
 
   -- nothing that is due to it is another
   pub is_feed_kept : (m : ℕ) (ps qs : List Pub) (f : Feed) → due_to f.name qs ≡ due_to f.name ps → IsFeed ps m acked tries tried f → IsFeed qs m acked tries tried f
@@ -163,7 +170,7 @@ module _ {acked tries tried : Bytes → ℕ} where
 
   is_feed_added : (ps : List Pub) (m : ℕ) (p : Pub) (r : ℕ) (f g : Feed) → m ≤ r → release_to f.name p.due ≡ Some r → IsFeed ps m acked tries tried f → IsAddedTo p.number m r f g → IsFeed (p ∷ ps) m acked tries tried g
   is_feed_added ps m p r f g le due is step =
-      let added : IsAdded (release_by p.number r) m f g = step.added (rising_waiting ps m f is.rows) in
+      let added : IsAdded (release_by p.number r) m f g = step.added in
       let rows : IsRow (p ∷ ps) m g = is_row_added ps m p r f g le due is.rows added in
       let stands : Stands acked tries tried g = stands_same acked tries tried f g added.delivery is.stands in
       record {

@@ -22,7 +22,7 @@ use Rattle.publish_queue.specs.declared.queue.Queue.{Queue}
 use Rattle.publish_queue.specs.declared.turns.Turn.{Turn}
 use Rattle.publish_queue.specs.Order.{AllBehind, AscendsBy}
 use Rattle.publish_queue.specs.Ready.{later_by}
-use Rattle.publish_queue.specs.Rows.{next_in}
+use Rattle.publish_queue.specs.Rows.{live, next_in}
 use Rattle.publish_queue.specs.Coming.{sooner}
 use Rattle.publish_queue.specs.Turns.{by_turn, same_turn, has, is_at}
 use Rattle.publish_queue.specs.Many.{turn_in, name_of}
@@ -83,7 +83,7 @@ later_is names ps m acked tries tried s f there name is =
     let acked_is : f.delivery.acked ≡ acked s = is.stands.receipt ∙ ap acked name in
     let tries_are : f.delivery.tries ≡ tries s = is.stands.attempts ∙ ap tries name in
     let turn : f.turn ≡ turn_of ps m acked tries tried s = is.turn ∙ ap (turn_of ps m acked tries tried) name in
-    let waits : next_in f.waiting.releases.items ≡ first_release (waiting_of ps m s) =
+    let waits : next_in (live f.waiting.releases.items) ≡ first_release (waiting_of ps m s) =
     ap next_in is.rows.waiting ∙ first_is (waiting_of ps m f.name) ∙ ap (λ t. first_release (waiting_of ps m t)) name in
     rw (there, pauses_is (feed_of ps m s) (acked s) (tries s), long, acked_is, tries_are, turn, waits) (by (nat_lt (acked s) (length (feed_of ps m s)) && tries s == 10))
   where

@@ -13,8 +13,9 @@ use Rattle.news_types.specs.Due.{Pub, release_to, is_by}
 use Rattle.news_types.specs.Feeds.{Dispatch, inserted, dispatch, put, is_out, is_waiting, due_to, waiting_of}
 use Rattle.news_types.specs.Legal.{comes_by, is_coming}
 use Rattle.news_types.proofs.Members.{same_is}
-use Rattle.publish_queue.specs.declared.waiting.Release.{Release}
+use Rattle.publish_queue.specs.declared.release.Release.{Release}
 use Rattle.publish_queue.specs.declared.feed.Feed.{Feed}
+use Rattle.publish_queue.specs.Rows.{live}
 use Rattle.publish_queue.specs.Order.{Differ}
 use Rattle.publish_queue.specs.Coming.{sooner, some_of_it, first_by, some_feed_by}
 use Rattle.publish_queue.specs.Many.{name_of, names_in}
@@ -127,9 +128,9 @@ any_named u (f ∷ fs) s all there = by (same s f.name) refl there (any_named u 
 
 -- the feed has what waits for its subscriber
 abbrev pub HasWaiting : List Pub → ℕ → Feed → Type 0
-HasWaiting ps m f = f.waiting.releases.items ≡ map release_of (waiting_of ps m f.name)
+HasWaiting ps m f = live f.waiting.releases.items ≡ map release_of (waiting_of ps m f.name)
 
-pub feed_first : (ps : List Pub) (m n : ℕ) (f : Feed) → HasWaiting ps m f → first_by n f.waiting.releases.items ≡ list_any (is_out n) (waiting_of ps m f.name)
+pub feed_first : (ps : List Pub) (m n : ℕ) (f : Feed) → HasWaiting ps m f → first_by n (live f.waiting.releases.items) ≡ list_any (is_out n) (waiting_of ps m f.name)
 feed_first ps m n f is = ap (first_by n) is ∙ first_decides n (waiting_of ps m f.name) (rises_waiting ps m f.name)
 
 -- what waits first, for itself or for somebody, decides whether a publication comes
@@ -143,7 +144,7 @@ coming_is names ps m n ws fs fair others named own_is all = both_ways (first_by 
     there : (first_by n ws || some_feed_by n fs) ≡ true → list_any (is_coming m n) ps ≡ true
     there is = either (first_by n ws) (some_feed_by n fs) (list_any (is_coming m n) ps ≡ true) is
         (λ here. own_comes m n ps (sym own_first ∙ here))
-        (λ some. from_all (HasWaiting ps m) (λ (f : Feed). first_by n f.waiting.releases.items) fs (list_any (is_coming m n) ps ≡ true) all some (λ f has here. feed_comes m n f.name ps (sym (feed_first ps m n f has) ∙ here)))
+        (λ some. from_all (HasWaiting ps m) (λ (f : Feed). first_by n (live f.waiting.releases.items)) fs (list_any (is_coming m n) ps ≡ true) all some (λ f has here. feed_comes m n f.name ps (sym (feed_first ps m n f has) ∙ here)))
 
     known : (s : Bytes) → list_any (λ (p : Pub). is_so (comes_by m n) (release_to s p.due)) ps ≡ true → (b : Bool) → is_in s names ≡ b → b ≡ true
     known s at true e = refl
@@ -153,7 +154,7 @@ coming_is names ps m n ws fs fair others named own_is all = both_ways (first_by 
     back is = either (list_any (λ (p : Pub). comes_by m n p.release) ps) (list_any (λ (p : Pub). list_any (λ (d : Due). comes_by m n d.release) p.due) ps) ((first_by n ws || some_feed_by n fs) ≡ true) (sym (any_or (λ (p : Pub). comes_by m n p.release) (λ (p : Pub). list_any (λ (d : Due). comes_by m n d.release) p.due) ps) ∙ is)
         (λ here. or_left (first_by n ws) (some_feed_by n fs) (own_first ∙ own_out m n ps ∙ here))
         (λ some. some_subscriber (comes_by m n) ps ((first_by n ws || some_feed_by n fs) ≡ true) fair some (λ s at.
-        or_right (first_by n ws) (some_feed_by n fs) (any_named (λ (f : Feed). first_by n f.waiting.releases.items) fs s
+        or_right (first_by n ws) (some_feed_by n fs) (any_named (λ (f : Feed). first_by n (live f.waiting.releases.items)) fs s
         (λ k d lt e. feed_first ps m n (get_or fs k d) (all k d lt) ∙ ap (λ t. list_any (is_out n) (waiting_of ps m t)) e ∙ waiting_out m n s ps ∙ at)
         (named s ∙ known s at (is_in s names) refl))))
 

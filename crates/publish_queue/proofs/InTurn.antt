@@ -8,14 +8,14 @@ use Rattle.std.specs.Ordering.{nat_cmp}
 use Rattle.std.proofs.lemmas.List.{length-set}
 use Rattle.news_types.specs.Names.{Bytes, same}
 use Rattle.news_types.proofs.Members.{same_is, same_self}
-use Rattle.publish_queue.specs.declared.waiting.Release.{Release}
+use Rattle.publish_queue.specs.declared.release.Release.{Release}
 use Rattle.publish_queue.specs.declared.feed.Delivery.{Delivery}
 use Rattle.publish_queue.specs.declared.feed.Feed.{Feed}
 use Rattle.publish_queue.specs.declared.turns.Turns.{Turns}
 use Rattle.publish_queue.specs.Order.{AllBehind, Ascends}
 use Rattle.publish_queue.specs.Turns.{HoldsTurns, is_at, one}
 use Rattle.publish_queue.specs.Ready.{row_turn}
-use Rattle.publish_queue.specs.Rows.{FirstIsLater, moved, left, number_in, moment_in}
+use Rattle.publish_queue.specs.Rows.{live, FirstIsLater, moved, left, number_in, moment_in}
 use Rattle.publish_queue.specs.Steps.{IsAlike, IsAdded, IsAdvanced, IsDelivered}
 use Rattle.publish_queue.specs.Many.{turn_in, turn_count, name_of, IsOrdered, IsSettled}
 use Rattle.publish_queue.proofs.Ascending.{less_not}
@@ -191,14 +191,14 @@ delivered_settled delivery f g h a b = record {
 }
 
 -- nothing is released
-pub advanced_none : (m : ℕ) (f : Feed) → FirstIsLater m f.waiting.releases.items → IsAdvanced m f f
+pub advanced_none : (m : ℕ) (f : Feed) → FirstIsLater m (live f.waiting.releases.items) → IsAdvanced m f f
 advanced_none m f later = record {
   delivery = record { name = refl; delivery = refl };
   row = record {
-    numbers = sym (moved_none number_in m f.row.numbers.items f.waiting.releases.items later);
-    releases = sym (moved_none moment_in m f.row.releases.items f.waiting.releases.items later);
+    numbers = sym (moved_none number_in m f.row.numbers.items (live f.waiting.releases.items) later);
+    releases = sym (moved_none moment_in m f.row.releases.items (live f.waiting.releases.items) later);
   };
-  waiting = sym (left_none m f.waiting.releases.items later);
+  waiting = sym (left_none m (live f.waiting.releases.items) later);
   fits = λ fits. fits;
 }
   where

@@ -2,6 +2,7 @@ pub mod Putting
 pub mod Entries
 pub mod Ascending
 pub mod Order
+pub mod Marking
 pub mod ByName
 pub mod TurnOrder
 pub mod SomeOf
@@ -11,6 +12,7 @@ pub mod Comings
 pub mod Many
 pub mod InTurn
 pub mod Turning
+pub mod Spanned
 pub mod Withdrawal
 pub mod AllFeeds
 pub mod Choosing

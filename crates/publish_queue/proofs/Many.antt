@@ -151,7 +151,7 @@ pub name_at : (fs : List Feed) (k : ℕ) (d : Feed) → k < length fs → get_or
 name_at fs k d lt = get_or-map name_of fs k d (name_of d) lt
 
 -- what is not among the names is none of them
-not_named : (s : Bytes) (ns : List Bytes) (k : ℕ) (d : Bytes) → is_in s ns ≡ false → k < length ns → same (get_or ns k d) s ≡ false
+pub not_named : (s : Bytes) (ns : List Bytes) (k : ℕ) (d : Bytes) → is_in s ns ≡ false → k < length ns → same (get_or ns k d) s ≡ false
 not_named s ns k d none lt = by (same (get_or ns k d) s) refl
   where
     by : (b : Bool) → same (get_or ns k d) s ≡ b → b ≡ false

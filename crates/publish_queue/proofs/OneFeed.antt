@@ -11,23 +11,15 @@ use Rattle.news_types.specs.Names.{Bytes}
 use Rattle.news_types.specs.Due.{Pub, release_to}
 use Rattle.news_types.specs.Feeds.{Dispatch, inserted, dispatch, is_out, is_waiting, due_to, feed_of, waiting_of}
 use Rattle.news_types.proofs.Feeds.{Rises, AllFrom, AllTo, all_from_less, rises_filter, rises_place, rises_due_to, filter_place, place_end, out_none, out_later, waiting_later, waiting_all, out_is_to}
-use Rattle.publish_queue.specs.declared.waiting.Release.{Release}
+use Rattle.publish_queue.specs.declared.release.Release.{Release}
 use Rattle.publish_queue.specs.declared.feed.Feed.{Feed}
 use Rattle.publish_queue.specs.Coming.{first_by}
 use Rattle.publish_queue.specs.Keeps.{IsRow, number_of, moment_of, release_of, own, own_waiting}
 use Rattle.publish_queue.specs.Many.{release_by}
-use Rattle.publish_queue.specs.Rows.{placed, moved, left, number_in, moment_in, NoneBefore, Rising}
+use Rattle.publish_queue.specs.Rows.{live, placed, moved, left, number_in, moment_in}
 use Rattle.publish_queue.specs.Steps.{HasEntries, IsAdvanced, IsAdded, IsAlike}
 
 -- ---- releases of publications
-
-none_before : (m : ℕ) (l : List Dispatch) → AllFrom m l → NoneBefore m (map release_of l)
-none_before m [] all = tt
-none_before m (q ∷ qs) all = (all.0, none_before m qs all.1)
-
-pub rising : (l : List Dispatch) → Rises l → Rising (map release_of l)
-rising [] rises = tt
-rising (q ∷ qs) rises = (none_before q.release qs rises.0, rising qs rises.1)
 
 -- what is moved to a row, of those that wait in order
 moved_is : (of : Release → ℕ) (n : ℕ) (row : List ℕ) (ws : List Dispatch) → Rises ws → moved of n row (map release_of ws) ≡ row ++ map (λ (d : Dispatch). of (release_of d)) (filter (is_out n) ws)
@@ -126,9 +118,6 @@ is_row_alike ps m f g is step = record {
 pub rises_waiting : (ps : List Pub) (m : ℕ) (s : Bytes) → Rises (waiting_of ps m s)
 rises_waiting ps m s = rises_filter (is_waiting m) (due_to s ps) (rises_due_to s ps)
 
-pub rising_waiting : (ps : List Pub) (m : ℕ) (f : Feed) → IsRow ps m f → Rising f.waiting.releases.items
-rising_waiting ps m f is = rw is.waiting (rising (waiting_of ps m f.name) (rises_waiting ps m f.name))
-
 -- nothing is released by then
 pub is_row_still : (ps : List Pub) (m n : ℕ) (f : Feed) → m ≤ n → list_any (is_out n) (waiting_of ps m f.name) ≡ false → IsRow ps m f → IsRow ps n f
 is_row_still ps m n f le none is = record {
@@ -173,7 +162,7 @@ is_row_passed ps m p f apart is =
 
 -- a feed of which what counts is told for its old name
 pub is_row_named : (ps : List Pub) (m : ℕ) (f g : Feed) (feed later : List Dispatch) → g.name ≡ f.name → feed_of ps m f.name ≡ feed → waiting_of ps m f.name ≡ later
-    → HasEntries g.row (map number_of feed) (map moment_of feed) → g.waiting.releases.items ≡ map release_of later → IsRow ps m g
+    → HasEntries g.row (map number_of feed) (map moment_of feed) → live g.waiting.releases.items ≡ map release_of later → IsRow ps m g
 is_row_named ps m f g feed later name feed_is later_is row waits =
     let feed_now : feed ≡ feed_of ps m g.name = sym feed_is ∙ ap (feed_of ps m) (sym name) in
     let later_now : later ≡ waiting_of ps m g.name = sym later_is ∙ ap (waiting_of ps m) (sym name) in
@@ -219,9 +208,6 @@ rises_own (p ∷ ps) = rises_place (dispatch p p.release) (own ps) (rises_own ps
 
 pub rises_own_waiting : (ps : List Pub) (m : ℕ) → Rises (own_waiting ps m)
 rises_own_waiting ps m = rises_filter (is_waiting m) (own ps) (rises_own ps)
-
-pub rising_own : (ps : List Pub) (m : ℕ) → Rising (map release_of (own_waiting ps m))
-rising_own ps m = rising (own_waiting ps m) (rises_own_waiting ps m)
 
 -- one more publication is among those that wait, or its moment has come
 pub own_added : (m : ℕ) (p : Pub) (ps : List Pub) (rs : List Release) → (p.release ≤ m → rs ≡ map release_of (own_waiting ps m))

@@ -14,7 +14,8 @@ use Rattle.news_types.proofs.Members.{same_is, each_filter, each_map}
 use Rattle.news_types.proofs.Feeds.{filter_place, rises_due_to}
 use Rattle.news_types.proofs.Dues.{release_from, release_given}
 use Rattle.publish_queue.specs.declared.feed.Feed.{Feed}
-use Rattle.publish_queue.specs.Rows.{without, is_among}
+use Rattle.publish_queue.specs.declared.release.Release.{Release}
+use Rattle.publish_queue.specs.Rows.{live, without, is_among, has_number}
 use Rattle.publish_queue.specs.Steps.{FitsOneMore, IsWithdrawn}
 use Rattle.publish_queue.specs.Many.{EachGoes, OneGoes}
 use Rattle.publish_queue.proofs.Many.{one_each}
@@ -109,20 +110,20 @@ pub waiting_left : (m : ℕ) (numbers : List ℕ) (s : Bytes) (ps qs : List Pub)
 waiting_left m numbers s ps qs leaves =
     ap (filter (is_waiting m)) leaves ∙ filter_swap (is_waiting m) (stays m numbers) (due_to s ps) ∙ filter_agree (stays m numbers) (is_other numbers) (is_waiting m) (due_to s ps) (waiting_stays m numbers)
 
-pub releases_left : (numbers : List ℕ) (l : List Dispatch) → without numbers (map release_of l) ≡ map release_of (filter (is_other numbers) l)
+pub releases_left : (numbers : List ℕ) (l : List Dispatch) → without (has_number numbers) (map release_of l) ≡ map release_of (filter (is_other numbers) l)
 releases_left numbers [] = refl
 releases_left numbers (p ∷ ps) = by (is_other numbers p) (releases_left numbers ps)
   where
-    by : (b : Bool) → without numbers (map release_of ps) ≡ map release_of (filter (is_other numbers) ps)
-        → cond b (release_of p ∷ without numbers (map release_of ps)) (without numbers (map release_of ps)) ≡ map release_of (cond b (p ∷ filter (is_other numbers) ps) (filter (is_other numbers) ps))
+    by : (b : Bool) → without (has_number numbers) (map release_of ps) ≡ map release_of (filter (is_other numbers) ps)
+        → cond b (release_of p ∷ without (has_number numbers) (map release_of ps)) (without (has_number numbers) (map release_of ps)) ≡ map release_of (cond b (p ∷ filter (is_other numbers) ps) (filter (is_other numbers) ps))
     by true rest = ap (λ rs. release_of p ∷ rs) rest
     by false rest = rest
 
-pub is_row_withdrawn : (m : ℕ) (numbers : List ℕ) (ps qs : List Pub) (f g : Feed) → Leaves m numbers f.name ps qs → IsRow ps m f → IsWithdrawn numbers f g → IsRow qs m g
+pub is_row_withdrawn : (m : ℕ) (numbers : List ℕ) (ps qs : List Pub) (f g : Feed) → Leaves m numbers f.name ps qs → IsRow ps m f → IsWithdrawn (has_number numbers) f g → IsRow qs m g
 is_row_withdrawn m numbers ps qs f g leaves is step =
     is_row_named qs m f g (feed_of ps m f.name) (filter (is_other numbers) (waiting_of ps m f.name)) step.delivery.name (feed_left m numbers f.name ps qs leaves) (waiting_left m numbers f.name ps qs leaves)
     (record { numbers = step.row.numbers ∙ is.row.numbers; releases = step.row.releases ∙ is.row.releases })
-    (step.waiting ∙ ap (without numbers) is.waiting ∙ releases_left numbers (waiting_of ps m f.name))
+    (step.waiting ∙ ap (without (has_number numbers)) is.waiting ∙ releases_left numbers (waiting_of ps m f.name))
 
 pub untouched_left : (m : ℕ) (numbers : List ℕ) (ps qs : List Pub) (acked tries tried : Bytes → ℕ) (s : Bytes) → Leaves m numbers s ps qs → IsUntouched ps acked tries tried s → IsUntouched qs acked tries tried s
 untouched_left m numbers ps qs acked tries tried s leaves is = record {
@@ -235,8 +236,8 @@ pub record HasStayed (f g : Feed) : Type 0 where
   pub turn : g.turn ≡ f.turn
   pub fits : FitsOneMore f → FitsOneMore g
 
-pub stayed : (n : ℕ) (s : Bytes) (olds news : List Feed) → OneGoes (IsWithdrawn (n ∷ [])) s olds news → EachGoes HasStayed olds news
-stayed n s olds news goes = one_each (IsWithdrawn (n ∷ [])) HasStayed s olds news goes (λ f g r. record { name = r.delivery.name; turn = r.turn; fits = r.fits }) (λ f. record { name = refl; turn = refl; fits = λ fits. fits })
+pub stayed : (gone : Release → Bool) (s : Bytes) (olds news : List Feed) → OneGoes (IsWithdrawn gone) s olds news → EachGoes HasStayed olds news
+stayed gone s olds news goes = one_each (IsWithdrawn gone) HasStayed s olds news goes (λ f g r. record { name = r.delivery.name; turn = r.turn; fits = r.fits }) (λ f. record { name = refl; turn = refl; fits = λ fits. fits })
 
 -- ---- for those to whom they are not released yet
 

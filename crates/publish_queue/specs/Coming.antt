@@ -4,9 +4,9 @@ use Rattle.std.specs.List.{list_any}
 use Rattle.news_types.specs.declared.query.Due.{Due}
 use Rattle.news_types.specs.Due.{is_by}
 use Rattle.news_types.specs.Legal.{comes_by}
-use Rattle.publish_queue.specs.declared.waiting.Release.{Release}
+use Rattle.publish_queue.specs.declared.release.Release.{Release}
 use Rattle.publish_queue.specs.declared.feed.Feed.{Feed}
-use Rattle.publish_queue.specs.Rows.{next_in}
+use Rattle.publish_queue.specs.Rows.{live, next_in}
 
 -- the earlier moment, if any
 abbrev pub sooner : Option ℕ → Option ℕ → Option ℕ
@@ -24,4 +24,4 @@ first_by n rs = is_by n (next_in rs)
 
 -- or the first of what waits for somebody
 abbrev pub some_feed_by : ℕ → List Feed → Bool
-some_feed_by n feeds = list_any (λ (f : Feed). first_by n f.waiting.releases.items) feeds
+some_feed_by n feeds = list_any (λ (f : Feed). first_by n (live f.waiting.releases.items)) feeds

@@ -12,9 +12,10 @@ use Rattle.news_types.specs.Publications.{standing}
 use Rattle.news_types.specs.Feeds.{Dispatch, inserted, dispatch, is_waiting, due_to, feed_of, waiting_of}
 use Rattle.news_types.specs.Delivery.{ready_from, acked, tries, tried}
 use Rattle.news_types.specs.Legal.{is_coming}
-use Rattle.publish_queue.specs.declared.waiting.Release.{Release}
+use Rattle.publish_queue.specs.declared.release.Release.{Release}
 use Rattle.publish_queue.specs.declared.feed.Feed.{Feed}
 use Rattle.publish_queue.specs.declared.queue.Queue.{Queue}
+use Rattle.publish_queue.specs.Rows.{live}
 use Rattle.publish_queue.specs.Steps.{HasEntries}
 use Rattle.publish_queue.specs.Many.{IsRoomy, IsOrdered}
 
@@ -52,7 +53,7 @@ release_of d = record { moment = d.release; number = d.shown.number }
 -- the row and what waits are those that the publications make for the subscriber at the moment
 pub record IsRow (ps : List Pub) (m : ℕ) (f : Feed) : Type 0 where
   pub row : HasEntries f.row (map number_of (feed_of ps m f.name)) (map moment_of (feed_of ps m f.name))
-  pub waiting : f.waiting.releases.items ≡ map release_of (waiting_of ps m f.name)
+  pub waiting : live f.waiting.releases.items ≡ map release_of (waiting_of ps m f.name)
 
 -- so much was acknowledged, the tries since, and the moment of the last one
 pub record Stands (acked tries tried : Bytes → ℕ) (f : Feed) : Type 0 where
@@ -91,7 +92,7 @@ pub record Keeps (q : Queue) (names : List Bytes) (ps : List Pub) (m : ℕ) (ack
   pub subscribed : (s : Bytes) → is_in s q.names.items ≡ is_in s names
   pub feeds : All (IsFeed ps m acked tries tried) q.feeds.items
   pub others : (s : Bytes) → is_in s names ≡ false → IsUntouched ps acked tries tried s
-  pub waits : q.waiting.releases.items ≡ map release_of (own_waiting ps m)
+  pub waits : live q.waiting.releases.items ≡ map release_of (own_waiting ps m)
   pub next : IsNext ps m q.next
   pub fair : Each IsFair ps
   pub ordered : IsOrdered q.feeds.items q.turns

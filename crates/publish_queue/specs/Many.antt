@@ -1,14 +1,16 @@
 -- What a call does to several feeds.
-use Rattle.std.specs.Prelude.{◌≡◌, ℕ, ◌+◌, ◌<◌, ◌≤◌, true, false, List, [], ◌∷◌, length, map, slice_index_or, if◌then◌else◌, Option, Some, None, vec_len, vec_capacity}
+use Rattle.std.specs.Prelude.{◌≡◌, ℕ, ◌+◌, ◌<◌, ◌≤◌, Bool, true, false, ◌&&◌, nat_le, List, [], ◌∷◌, length, map, slice_index_or, if◌then◌else◌, Option, Some, None, vec_len, vec_capacity}
+use Rattle.std.specs.List.{list_any}
 use Rattle.news_types.specs.declared.query.Due.{Due}
 use Rattle.news_types.specs.Names.{Bytes, same, is_in}
 use Rattle.news_types.specs.Due.{release_to}
 use Rattle.publish_queue.specs.declared.feed.Delivery.{Delivery}
 use Rattle.publish_queue.specs.declared.feed.Feed.{Feed}
-use Rattle.publish_queue.specs.declared.waiting.Release.{Release}
+use Rattle.publish_queue.specs.declared.release.Release.{Release}
+use Rattle.publish_queue.specs.declared.release.Span.{Span}
 use Rattle.publish_queue.specs.declared.turns.Turns.{Turns}
-use Rattle.publish_queue.specs.Rows.{Rising}
-use Rattle.publish_queue.specs.Steps.{IsAlike, IsAdded, IsAdvanced, IsDelivered, FitsOneMore}
+use Rattle.publish_queue.specs.Rows.{is_among}
+use Rattle.publish_queue.specs.Steps.{IsAlike, IsAdded, IsAdvanced, IsWithdrawn, IsDelivered, FitsOneMore}
 use Rattle.publish_queue.specs.Ready.{row_turn}
 use Rattle.publish_queue.specs.Turns.{HoldsTurns, one}
 
@@ -80,7 +82,7 @@ pub record IsSettled (old new : Feed) : Type 0 where
 -- where it belongs
 pub record IsAddedTo (number moment release : ℕ) (old new : Feed) : Type 0 where
   pub name : new.name ≡ old.name
-  pub added : Rising old.waiting.releases.items → IsAdded (release_by number release) moment old new
+  pub added : IsAdded (release_by number release) moment old new
   pub turn : new.turn ≡ row_turn new
 
 -- what is released is in the row, and the feed stands where it belongs
@@ -97,3 +99,17 @@ pub record IsDeliveredTo (delivery : Delivery) (old new : Feed) : Type 0 where
 pub record IsSame (old new : Feed) : Type 0 where
   pub alike : IsAlike old new
   pub turn : new.turn ≡ old.turn
+
+-- ---- withdrawals
+
+-- one of these spans is the subscriber's, and the moment is in it
+abbrev pub is_within : Bytes → ℕ → List Span → Bool
+is_within s moment spans = list_any (λ (span : Span). same s span.subscriber && (nat_le span.first moment && nat_le moment span.last)) spans
+
+-- it has one of these numbers, and it is in a span of the subscriber's
+abbrev pub is_spanned : List ℕ → List Span → Bytes → Release → Bool
+is_spanned numbers spans s r = is_among r.number numbers && is_within s r.moment spans
+
+-- the releases with these numbers that are in a span of its subscriber's do not wait any more
+abbrev pub IsWithdrawnBy : List ℕ → List Span → Feed → Feed → Type 0
+IsWithdrawnBy numbers spans old new = IsWithdrawn (is_spanned numbers spans old.name) old new

@@ -2,7 +2,7 @@
 use Rattle.std.specs.Prelude.{ℕ, ◌+◌, ◌==◌, nat_lt, ◌&&◌, length, slice_get, if◌then◌else◌, Option, Some, None}
 use Rattle.news_types.specs.Delivery.{retry_delay, or_else}
 use Rattle.publish_queue.specs.declared.feed.Feed.{Feed}
-use Rattle.publish_queue.specs.Rows.{next_in}
+use Rattle.publish_queue.specs.Rows.{live, next_in}
 
 -- when an entry of that release may be pushed, behind so many tries of which the last was at the moment
 abbrev pub turn_by : Option ℕ → ℕ → ℕ → Option ℕ
@@ -17,4 +17,4 @@ abbrev pub later_by : Feed → Option ℕ
 later_by f =
     if nat_lt f.delivery.acked (length f.row.numbers.items) && f.delivery.tries == 10
     then None
-    else or_else f.turn (next_in f.waiting.releases.items)
+    else or_else f.turn (next_in (live f.waiting.releases.items))

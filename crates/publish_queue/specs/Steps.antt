@@ -1,12 +1,12 @@
 -- What a call does to one feed.
-use Rattle.std.specs.Prelude.{◌≡◌, ℕ, ◌+◌, ◌<◌, ◌≤◌, List, [], ◌∷◌, ◌++◌, None, vec_len}
+use Rattle.std.specs.Prelude.{◌≡◌, ℕ, Bool, ◌+◌, ◌<◌, ◌≤◌, List, [], ◌∷◌, ◌++◌, None, vec_len}
 use Rattle.std.specs.VecDeque.{deque_len, deque_capacity}
 use Rattle.news_types.specs.Names.{Bytes}
-use Rattle.publish_queue.specs.declared.waiting.Release.{Release}
+use Rattle.publish_queue.specs.declared.release.Release.{Release}
 use Rattle.publish_queue.specs.declared.row.Row.{Row}
 use Rattle.publish_queue.specs.declared.feed.Delivery.{Delivery}
 use Rattle.publish_queue.specs.declared.feed.Feed.{Feed}
-use Rattle.publish_queue.specs.Rows.{placed, moved, left, without, number_in, moment_in}
+use Rattle.publish_queue.specs.Rows.{placed, moved, left, without, number_in, moment_in, live}
 use Rattle.publish_queue.specs.Places.{HasPlaces}
 
 -- one more publication fits
@@ -28,7 +28,7 @@ SameEntries old new = HasEntries new old.numbers.items old.releases.items
 pub record IsEmptyFeed (s : Bytes) (f : Feed) : Type 0 where
   pub name : f.name ≡ s
   pub row : HasEntries f.row [] []
-  pub waiting : f.waiting.releases.items ≡ []
+  pub waiting : live f.waiting.releases.items ≡ []
   pub acked : f.delivery.acked ≡ 0
   pub tries : f.delivery.tries ≡ 0
   pub tried : f.delivery.tried ≡ 0
@@ -43,20 +43,20 @@ pub record SameDelivery (old new : Feed) : Type 0 where
 pub record IsAlike (old new : Feed) : Type 0 where
   pub delivery : SameDelivery old new
   pub row : SameEntries old.row new.row
-  pub waiting : new.waiting.releases.items ≡ old.waiting.releases.items
+  pub waiting : live new.waiting.releases.items ≡ live old.waiting.releases.items
 
 -- those whose release has come are in the row
 pub record IsAdvanced (moment : ℕ) (old new : Feed) : Type 0 where
   pub delivery : SameDelivery old new
-  pub row : HasEntries new.row (moved number_in moment old.row.numbers.items old.waiting.releases.items) (moved moment_in moment old.row.releases.items old.waiting.releases.items)
-  pub waiting : new.waiting.releases.items ≡ left moment old.waiting.releases.items
+  pub row : HasEntries new.row (moved number_in moment old.row.numbers.items (live old.waiting.releases.items)) (moved moment_in moment old.row.releases.items (live old.waiting.releases.items))
+  pub waiting : live new.waiting.releases.items ≡ left moment (live old.waiting.releases.items)
   pub fits : FitsOneMore old → FitsOneMore new
 
--- the publications do not wait any more
-pub record IsWithdrawn (numbers : List ℕ) (old new : Feed) : Type 0 where
+-- the releases that pass the test do not wait any more
+pub record IsWithdrawn (gone : Release → Bool) (old new : Feed) : Type 0 where
   pub delivery : SameDelivery old new
   pub row : SameEntries old.row new.row
-  pub waiting : new.waiting.releases.items ≡ without numbers old.waiting.releases.items
+  pub waiting : live new.waiting.releases.items ≡ without gone (live old.waiting.releases.items)
   pub turn : new.turn ≡ old.turn
   pub fits : FitsOneMore old → FitsOneMore new
 
@@ -64,13 +64,13 @@ pub record IsWithdrawn (numbers : List ℕ) (old new : Feed) : Type 0 where
 pub record IsAdded (release : Release) (moment : ℕ) (old new : Feed) : Type 0 where
   pub delivery : SameDelivery old new
   pub out : release.moment ≤ moment
-      → HasEntries new.row (old.row.numbers.items ++ release.number ∷ []) (old.row.releases.items ++ release.moment ∷ []) × (new.waiting.releases.items ≡ old.waiting.releases.items)
-  pub later : moment < release.moment → SameEntries old.row new.row × (new.waiting.releases.items ≡ placed release old.waiting.releases.items)
+      → HasEntries new.row (old.row.numbers.items ++ release.number ∷ []) (old.row.releases.items ++ release.moment ∷ []) × (live new.waiting.releases.items ≡ live old.waiting.releases.items)
+  pub later : moment < release.moment → SameEntries old.row new.row × (live new.waiting.releases.items ≡ placed release (live old.waiting.releases.items))
 
 -- its delivery stands otherwise
 pub record IsDelivered (delivery : Delivery) (old new : Feed) : Type 0 where
   pub name : new.name ≡ old.name
   pub row : SameEntries old.row new.row
-  pub waiting : new.waiting.releases.items ≡ old.waiting.releases.items
+  pub waiting : live new.waiting.releases.items ≡ live old.waiting.releases.items
   pub stands : new.delivery ≡ delivery
   pub fits : FitsOneMore old → FitsOneMore new

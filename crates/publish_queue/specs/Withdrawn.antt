@@ -1,11 +1,13 @@
 -- What is left of publications where some are withdrawn.
-use Rattle.std.specs.Prelude.{◌≡◌, ℕ, ◌<◌, not, ◌==◌, List, map, if◌then◌else◌, Some}
+use Rattle.std.specs.Prelude.{◌≡◌, ℕ, ◌<◌, true, not, ◌==◌, List, map, if◌then◌else◌, Some}
 use Rattle.std.specs.List.{filter}
 use Rattle.news_types.specs.declared.query.Due.{Due}
 use Rattle.news_types.specs.Names.{Bytes, same}
 use Rattle.news_types.specs.Members.{Each}
 use Rattle.news_types.specs.Due.{Pub, release_to, given_by, left_behind}
+use Rattle.publish_queue.specs.declared.release.Span.{Span}
 use Rattle.publish_queue.specs.Rows.{is_among}
+use Rattle.publish_queue.specs.Many.{is_within}
 
 -- ---- for everybody
 
@@ -15,6 +17,10 @@ without_number n ps = filter (λ (p : Pub). not (p.number == n)) ps
 -- the publication of that number waits, if it is there
 abbrev pub Waits : ℕ → ℕ → List Pub → Type 0
 Waits n m ps = Each (λ (p : Pub). p.number ≡ n → m < p.release) ps
+
+-- it has that release, if it is there
+abbrev pub HasRelease : ℕ → ℕ → List Pub → Type 0
+HasRelease n release ps = Each (λ (p : Pub). p.number ≡ n → p.release ≡ release) ps
 
 -- ---- for one subscriber
 
@@ -32,7 +38,15 @@ withdrawn_for s n ps = map (left_for_others s n) ps
 abbrev pub WaitsFor : Bytes → ℕ → ℕ → List Pub → Type 0
 WaitsFor s n m ps = Each (λ (p : Pub). p.number ≡ n → (r : ℕ) → release_to s p.due ≡ Some r → m < r) ps
 
+-- it has that release for the subscriber, if it is due to it
+abbrev pub HasReleaseTo : Bytes → ℕ → ℕ → List Pub → Type 0
+HasReleaseTo s n release ps = Each (λ (p : Pub). p.number ≡ n → (r : ℕ) → release_to s p.due ≡ Some r → r ≡ release) ps
+
 -- ---- for those to whom they are not released yet
+
+-- where a publication of these numbers waits for a subscriber, its release is in one of the spans for it
+abbrev pub AreWithin : ℕ → List ℕ → List Span → List Pub → Type 0
+AreWithin m numbers spans ps = Each (λ (p : Pub). is_among p.number numbers ≡ true → (s : Bytes) (r : ℕ) → release_to s p.due ≡ Some r → m < r → is_within s r spans ≡ true) ps
 
 -- a publication of these numbers stands for those alone to whom it is released by the moment
 abbrev pub left_of : ℕ → List ℕ → Pub → Pub

@@ -61,7 +61,7 @@ impl Queue {
             length: feed.row.len() as u32,
             acked: feed.delivery.acked,
             tries: feed.delivery.tries,
-            waits: feed.waiting.len() > 0,
+            waits: feed.waiting.next().is_some(),
         })
     }
 }

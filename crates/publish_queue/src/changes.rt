@@ -1,13 +1,14 @@
 //! What changes one feed.
 ghost use Rattle.std.specs.Prelude.{◌≡◌, OnOk};
 ghost use Rattle.std.specs.Bool.{MatchBool};
-ghost use Rattle.publish_queue.specs.Rows.{Rising, FirstIsLater};
+ghost use Rattle.publish_queue.specs.Rows.{live, is_between, FirstIsLater};
 ghost use Rattle.publish_queue.specs.Ready.{row_turn, later_by};
 ghost use Rattle.publish_queue.specs.Steps.{IsEmptyFeed, IsAlike, IsAdvanced, IsAdded, IsWithdrawn, IsDelivered, FitsOneMore};
 
 use crate::feed::{Delivery, Feed};
+use crate::release::Release;
 use crate::row::Row;
-use crate::waiting::{Release, WaitingList};
+use crate::waiting::WaitingList;
 use news_types::{Memory, Moment, Name};
 use release_rules::retry_delay;
 use std::alloc::Global;
@@ -59,7 +60,7 @@ impl Feed {
     pub fn add(&mut self, release: Release, moment: Moment)
         requires { FitsOneMore self.old }
         ensures name { self.new.name ≡ self.old.name }
-        ensures added { Rising self.old.waiting.releases.items → IsAdded release moment self.old self.new }
+        ensures added { IsAdded release moment self.old self.new }
         ensures turn { self.new.turn ≡ self.old.turn }
     {
         if release.moment <= moment {
@@ -69,11 +70,11 @@ impl Feed {
         self.waiting.add(release);
     }
 
-    /// Takes publications out of those that wait.
-    pub fn withdraw(&mut self, numbers: &[u32])
-        ensures { IsWithdrawn numbers.now self.old self.new }
+    /// Withdraws those of these numbers that wait, and are released between two moments.
+    pub fn withdraw(&mut self, numbers: &[u32], first: Moment, last: Moment)
+        ensures { IsWithdrawn (is_between numbers.now first last) self.old self.new }
     {
-        self.waiting.remove(numbers);
+        self.waiting.remove(numbers, first, last);
     }
 
     /// Says how its delivery stands.
@@ -95,7 +96,7 @@ impl Feed {
 
     /// Whether something is released at the moment.
     pub fn is_due(&self, moment: Moment) -> bool
-        ensures { MatchBool result (Unit {0}) (FirstIsLater moment self.now.waiting.releases.items) }
+        ensures { MatchBool result (Unit {0}) (FirstIsLater moment (live self.now.waiting.releases.items)) }
     {
         match self.waiting.first() {
             Some(first) => first.moment <= moment,

@@ -2,6 +2,7 @@
 ghost use Rattle.std.specs.Prelude.{◌≡◌, ℕ, ◌||◌};
 ghost use Rattle.news_types.specs.Due.{is_by};
 ghost use Rattle.news_types.specs.Legal.{comes_by};
+ghost use Rattle.publish_queue.specs.Rows.{live};
 ghost use Rattle.publish_queue.specs.Coming.{sooner, some_of_it, first_by, some_feed_by};
 
 use crate::feed::Feed;
@@ -49,7 +50,7 @@ fn behind(moment: Moment, release: Moment) -> Option<Moment>
 
 /// The first release of what waits, for itself or for somebody.
 pub fn next_of(waiting: &WaitingList, feeds: &[Feed]) -> Option<Moment>
-    ensures { (n : ℕ) → is_by n result ≡ (first_by n waiting.now.releases.items || some_feed_by n feeds.now) }
+    ensures { (n : ℕ) → is_by n result ≡ (first_by n (live waiting.now.releases.items) || some_feed_by n feeds.now) }
 {
     let mut first = waiting.next();
     for feed in feeds {

@@ -2,13 +2,14 @@
 ghost use Rattle.std.specs.Prelude.{◌≡◌, ◌<◌, OnOk, length, map, vec_len, vec_capacity};
 ghost use Rattle.std.specs.List.{All, HoldsAt};
 ghost use Rattle.publish_queue.specs.Order.{Ascends, Differ};
+ghost use Rattle.publish_queue.specs.Rows.{is_between};
 ghost use Rattle.publish_queue.specs.Steps.{IsWithdrawn, FitsOneMore};
-ghost use Rattle.publish_queue.specs.Many.{Sets, Spread, EachGoes, OneGoes, IsRoomy, IsSame, IsAddedTo, IsAdvancedTo, IsDeliveredTo, IsSettled, IsOrdered, name_of, names_in};
+ghost use Rattle.publish_queue.specs.Many.{Sets, Spread, EachGoes, OneGoes, IsRoomy, IsSame, IsAddedTo, IsAdvancedTo, IsDeliveredTo, IsSettled, IsWithdrawnBy, IsOrdered, name_of, names_in};
 
 use crate::feed::{Delivery, Feed};
+use crate::release::{Release, Span};
 use crate::search::find;
 use crate::turns::Turns;
-use crate::waiting::Release;
 use news_types::{Due, Memory, Moment, Name};
 
 /// Takes the memory for one more publication that is due to these subscribers.
@@ -125,29 +126,41 @@ fn settle_at(feeds: &mut Vec<Feed>, turns: &mut Turns, at: usize)
     feed.set_turn(turn);
 }
 
-/// Takes publications out of what waits for each of them.
-pub fn withdraw_all(feeds: &mut Vec<Feed>, numbers: &[u32])
-    ensures { EachGoes (IsWithdrawn numbers.now) feeds.old.items feeds.new.items }
+/// Withdraws the publications of these numbers that wait for a subscriber, and are released to it within one of these spans.
+pub fn withdraw_all(feeds: &mut Vec<Feed>, names: &[Name], numbers: &[u32], spans: &[Span])
+    requires paired { length names.now ≡ vec_len feeds.old }
+    requires ascends { Ascends names.now }
+    requires named { map name_of feeds.old.items ≡ names.now }
+    ensures { EachGoes (IsWithdrawnBy numbers.now spans.now) feeds.old.items feeds.new.items }
 {
-    for feed in feeds.iter_mut() {
-        feed.withdraw(numbers);
+    for span in spans {
+        if let Some(at) = find(names, &span.subscriber) {
+            withdraw_at(feeds, at, numbers, span.first, span.last);
+        }
     }
 }
 
-/// Takes publications out of what waits for one subscriber.
-pub fn withdraw_one(feeds: &mut Vec<Feed>, names: &[Name], name: &Name, numbers: &[u32])
+/// Withdraws the publications of these numbers that wait for one subscriber, and are released to it between two moments.
+pub fn withdraw_one(
+    feeds: &mut Vec<Feed>,
+    names: &[Name],
+    name: &Name,
+    numbers: &[u32],
+    first: Moment,
+    last: Moment,
+)
     requires { length names.now ≡ vec_len feeds.old }
-    ensures { Ascends names.now → map name_of feeds.old.items ≡ names.now → OneGoes (IsWithdrawn numbers.now) name.now feeds.old.items feeds.new.items }
+    ensures { Ascends names.now → map name_of feeds.old.items ≡ names.now → OneGoes (IsWithdrawn (is_between numbers.now first last)) name.now feeds.old.items feeds.new.items }
 {
     if let Some(at) = find(names, name) {
-        withdraw_at(feeds, at, numbers);
+        withdraw_at(feeds, at, numbers, first, last);
     }
 }
 
-// Takes publications out of what waits for the one at that place.
-fn withdraw_at(feeds: &mut Vec<Feed>, at: usize, numbers: &[u32])
+// Withdraws the publications of these numbers that wait for the one at that place, and are released to it between two moments.
+fn withdraw_at(feeds: &mut Vec<Feed>, at: usize, numbers: &[u32], first: Moment, last: Moment)
     requires { at < vec_len feeds.old }
-    ensures { Sets (IsWithdrawn numbers.now) at feeds.old.items feeds.new.items }
+    ensures { Sets (IsWithdrawn (is_between numbers.now first last)) at feeds.old.items feeds.new.items }
 {
-    feeds[at].withdraw(numbers);
+    feeds[at].withdraw(numbers, first, last);
 }

@@ -9,8 +9,10 @@ mod coming;
 mod deliver;
 mod feed;
 mod feeds;
+mod marks;
 mod publish;
 mod queue;
+mod release;
 mod row;
 mod rows;
 mod search;
@@ -22,6 +24,7 @@ mod withdraw;
 pub use ask::FeedFacts;
 pub use news_types::Ready;
 pub use queue::Queue;
+pub use release::Span;
 
 #[cfg(test)]
 mod tests;

@@ -11,7 +11,7 @@ ghost use Rattle.publish_queue.specs.Keeps.{Keeps, HasRoom, IsFair};
 use crate::coming::{next_of, next_with};
 use crate::feeds::{add_all, advance_all};
 use crate::queue::Queue;
-use crate::waiting::Release;
+use crate::release::Release;
 use news_types::{Due, Moment};
 
 impl Queue {

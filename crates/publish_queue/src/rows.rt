@@ -2,8 +2,8 @@
 ghost use Rattle.std.specs.Prelude.{◌≡◌, ◌+◌, ◌≤◌, [], ◌∷◌, ◌++◌, OnOk, vec_len, vec_capacity, slice_get};
 ghost use Rattle.publish_queue.specs.Places.{HasPlaces, KeepsPlaces};
 
+use crate::release::Release;
 use crate::row::Row;
-use crate::waiting::Release;
 use news_types::Moment;
 use std::alloc::{AllocError, Global};
 

@@ -1,4 +1,4 @@
-use crate::{FeedFacts, Queue, Ready};
+use crate::{FeedFacts, Queue, Ready, Span};
 use news_types::{Due, Memory, Moment, Name};
 use std::alloc::Global;
 
@@ -83,6 +83,14 @@ fn facts_of(length: u32, acked: u32, tries: u32, waits: bool) -> Option<FeedFact
         tries,
         waits,
     })
+}
+
+fn span_of(subscriber: Name, first: Moment, last: Moment) -> Span {
+    Span {
+        subscriber,
+        first,
+        last,
+    }
 }
 
 fn now_of(subscriber: Name, k: u32) -> Ready {
@@ -205,7 +213,7 @@ fn what_is_withdrawn_is_never_released(rt: HostRuntime) {
     for number in 1..4 {
         publish(&mut queue, number, 2000, alpha).expect(&rt, "memory");
     }
-    queue.withdraw(2);
+    queue.withdraw(2, 2000, &[span_of(alpha, 2000, 2000)]);
     queue.advance(2000);
     assert_eq!(rt; queue.number(&alpha, 1), Some(1));
     assert_eq!(rt; queue.number(&alpha, 2), Some(3));
@@ -257,7 +265,10 @@ fn a_kill_takes_back_what_was_not_given(rt: HostRuntime) {
     publish_later(&mut queue, 2, 1000, beta, 1700).expect(&rt, "memory");
 
     queue.advance(1300);
-    queue.take_back(&[1]);
+    queue.take_back(
+        &[1],
+        &[span_of(alpha, 1000, 1000), span_of(beta, 1600, 1600)],
+    );
     publish(&mut queue, 3, 1300, alpha).expect(&rt, "memory");
     assert_eq!(rt; queue.facts(&alpha), facts_of(2, 0, 0, false));
     assert_eq!(rt; queue.number(&alpha, 1), Some(1));
@@ -276,12 +287,12 @@ fn one_subscriber_waits_no_more(rt: HostRuntime) {
     let gamma = Name::read("gamma").expect(&rt, "a name");
     let mut queue = queue_of(rt.alloc(), alpha, beta).expect(&rt, "memory");
     publish_to_both(&mut queue, 1, 1000, (alpha, 2000), (beta, 2000)).expect(&rt, "memory");
-    queue.withdraw_for(&beta, 1);
-    queue.withdraw_for(&gamma, 1);
+    queue.withdraw_for(&beta, 1, 2000);
+    queue.withdraw_for(&gamma, 1, 2000);
     assert_eq!(rt; queue.facts(&alpha), facts_of(0, 0, 0, true));
     assert_eq!(rt; queue.facts(&beta), facts_of(0, 0, 0, false));
     assert!(rt; queue.waits_until(1000));
-    queue.withdraw_for(&alpha, 1);
+    queue.withdraw_for(&alpha, 1, 2000);
     queue.advance(1000);
     assert!(rt; !queue.waits_until(LAST_MOMENT));
 }

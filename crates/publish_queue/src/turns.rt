@@ -49,6 +49,9 @@ impl Turns {
             vec_len self.new.turns + one before ≡ vec_len self.old.turns + one after }
         ensures capacity { vec_capacity self.old.turns ≤ vec_capacity self.new.turns }
     {
+        if before == after {
+            return;
+        }
         if let Some(moment) = before {
             self.remove(Turn { moment, name });
         }

@@ -34,6 +34,7 @@ use Rattle.publish_queue.specs.Order.{Differ}
 use Rattle.publish_queue.specs.Many.{names_in}
 use Rattle.publish_queue.specs.declared.queue.Queue.{Queue}
 use Rattle.publish_queue.specs.Keeps.{IsFair, HasRoom}
+use Rattle.publish_queue.specs.Rows.{is_among}
 use Rattle.publish_queue.specs.Withdrawn.{AreOfItem}
 use Rattle.publish_queue.proofs.Withdrawal.{are_of_item}
 use Rattle.item_table.specs.Asked.{story_of}
@@ -57,6 +58,7 @@ use Rattle.story_tables.proofs.FirstTime.{nothing_before}
 use Rattle.story_tables.proofs.Leaving.{leaves_of}
 use Rattle.story_tables.proofs.Numbered.{numbers_are}
 use Rattle.story_tables.proofs.Publishing.{first_told, first_with}
+use Rattle.story_tables.proofs.Spanned.{are_within, have_item}
 
 -- ---- to whom it is due
 
@@ -343,7 +345,7 @@ module _ (h : History) (m number : ℕ) (caller : Bytes) (command : Command) (wh
   told_later : moment h ≤ told.release
   told_later = let from = only (λ (p : Pub). m ≤ p.release) (new_releases (entry_of m (Request caller number command)) h) in omega (arith, from, legal.1)
 
-  pub issued_feeds : (step_is : FeedStep) (n : ℕ) (due : Vec Due Global) → IsStepOf step_is what.kind (numbers_of what.item (pubs h)) n what.release due → n ≡ told.number → ((s : Bytes) → release_to s due.items ≡ release_to s told.due)
+  pub issued_feeds : (step_is : FeedStep) (n : ℕ) (due : Vec Due Global) → IsStepOf step_is what.kind what.item (pubs h) (standing h) n what.release due → n ≡ told.number → ((s : Bytes) → release_to s due.items ≡ release_to s told.due)
       → FeedsFor step_is h (behind h m number caller command)
   issued_feeds (step.Publish n r d) k due step_of number_is are = record {
     subscribed = does.subscribed;
@@ -357,7 +359,7 @@ module _ (h : History) (m number : ℕ) (caller : Bytes) (command : Command) (wh
     fair = told_fair;
     known = told_known;
   }
-  issued_feeds (step.TakeBack ns n d) k due step_of number_is are =
+  issued_feeds (step.TakeBack ns spans n d) k due step_of number_is are =
       let at = does.at step_of.0 in
       record {
         subscribed = does.subscribed;
@@ -365,9 +367,10 @@ module _ (h : History) (m number : ℕ) (caller : Bytes) (command : Command) (wh
         p = told;
         stands = issued_standing ∙ ap (λ l. told ∷ l) (taken_left what.kind told (standing h) step_of.0 ∙ ap (λ r. taken_back r what.item (standing h)) at);
         are = subst (λ l. AreOfItem m what.item l (standing h)) (sym step_of.1) (are_of_item m what.item (numbers_of what.item (pubs h)) (standing h) (numbers_are h what.item));
-        is_number = sym (step_of.2 ∙ number_is);
+        within = are_within m what.item ns.items spans.items (standing h) (have_item what.item ns.items (standing h) (subst (λ l. Each (λ (p : Pub). is_among p.number l ≡ (p.item == what.item)) (standing h)) (sym step_of.1) (numbers_are h what.item))) step_of.2;
+        is_number = sym (step_of.3 ∙ number_is);
         is_release = at;
-        is_due_to = λ s. sym (are s) ∙ ap (λ (v : Vec Due Global). release_to s v.items) (sym step_of.3);
+        is_due_to = λ s. sym (are s) ∙ ap (λ (v : Vec Due Global). release_to s v.items) (sym step_of.4);
         fair = told_fair;
         known = told_known;
       }
@@ -384,17 +387,14 @@ module _ (h : History) (m number : ℕ) (caller : Bytes) (command : Command) (wh
 
 -- ---- the step of the feeds
 
-step_for_items : (s : FeedStep) (h : History) (x : declared_issue.Issue) (numbers : List ℕ) (n : ℕ) (due : Vec Due Global) → numbers ≡ numbers_of x.item (pubs h) → IsStepOf s x.kind numbers n x.release due → IsStepOf s x.kind (numbers_of x.item (pubs h)) n x.release due
-step_for_items s h x numbers n due are given = subst (λ l. IsStepOf s x.kind l n x.release due) are given
+pub step_for : (s : FeedStep) (h : History) (x : declared_issue.Issue) (what : Issue) (it : Item) (n : ℕ) (due : Vec Due Global) → x ≡ issue_of what it → IsStepOf s x.kind x.item (pubs h) (standing h) n x.release due
+    → IsStepOf s what.kind what.item (pubs h) (standing h) n what.release due
+step_for s h x what it n due same given = subst (λ (y : declared_issue.Issue). IsStepOf s y.kind y.item (pubs h) (standing h) n y.release due) same given
 
-pub step_for : (s : FeedStep) (h : History) (x : declared_issue.Issue) (what : Issue) (it : Item) (numbers : List ℕ) (n : ℕ) (due : Vec Due Global) → x ≡ issue_of what it → numbers ≡ numbers_of x.item (pubs h) → IsStepOf s x.kind numbers n x.release due
-    → IsStepOf s what.kind (numbers_of what.item (pubs h)) n what.release due
-step_for s h x what it numbers n due same are given = subst (λ (y : declared_issue.Issue). IsStepOf s y.kind (numbers_of y.item (pubs h)) n y.release due) same (step_for_items s h x numbers n due are given)
-
-pub step_room : (q : Queue) (s : FeedStep) (k : Kind) (numbers : List ℕ) (n r : ℕ) (due : Vec Due Global) → IsStepOf s k numbers n r due → HasRoom q (names_in due.items) → Differ (names_in due.items) → HasFeedRoom q s
-step_room q (step.Publish m o d) k numbers n r due is room differ = subst (λ (v : Vec Due Global). HasRoom q (names_in v.items) × Differ (names_in v.items)) (sym is.3) (room, differ)
-step_room q (step.TakeBack ns m d) k numbers n r due is room differ = subst (λ (v : Vec Due Global). HasRoom q (names_in v.items) × Differ (names_in v.items)) (sym is.3) (room, differ)
-step_room q _ k numbers n r due is room differ = absurd is
+pub step_room : (q : Queue) (s : FeedStep) (k : Kind) (i : ℕ) (ps st : List Pub) (n r : ℕ) (due : Vec Due Global) → IsStepOf s k i ps st n r due → HasRoom q (names_in due.items) → Differ (names_in due.items) → HasFeedRoom q s
+step_room q (step.Publish m o d) k i ps st n r due is room differ = subst (λ (v : Vec Due Global). HasRoom q (names_in v.items) × Differ (names_in v.items)) (sym is.3) (room, differ)
+step_room q (step.TakeBack ns spans m d) k i ps st n r due is room differ = subst (λ (v : Vec Due Global). HasRoom q (names_in v.items) × Differ (names_in v.items)) (sym is.4) (room, differ)
+step_room q _ k i ps st n r due is room differ = absurd is
 
 -- ---- the step of the publications
 

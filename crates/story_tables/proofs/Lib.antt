@@ -11,6 +11,7 @@ pub mod InOrder
 pub mod Reported
 pub mod Ingested
 pub mod RoutedOut
+pub mod Spanned
 pub mod Descheduling
 pub mod FirstTime
 pub mod Backed

@@ -1,5 +1,6 @@
 -- What an entry does to the feeds.
-use Rattle.std.specs.Prelude.{◌≡◌, ◌≤◌, ◌<◌, ◌==◌, not, ℕ, true, false, List, ◌∷◌, Option, Some, None, if◌then◌else◌}
+use Rattle.std.specs.Prelude.{◌≡◌, ◌≤◌, ◌<◌, ◌==◌, ◌&&◌, not, nat_le, ℕ, true, false, List, [], ◌∷◌, map, unwrap_or, Vec, Option, Some, None, if◌then◌else◌}
+use Rattle.std.specs.Global.{Global}
 use Rattle.std.specs.List.{filter}
 use Rattle.news_types.specs.declared.query.Due.{Due}
 use Rattle.news_types.specs.Names.{Bytes, same, is_in}
@@ -8,14 +9,15 @@ use Rattle.news_types.specs.declared.command.Command.{Command}
 use Rattle.news_types.specs.declared.command.Command.TheVariants as command
 use Rattle.news_types.specs.History.{History, moment}
 use Rattle.news_types.specs.Products.{subscribers}
-use Rattle.news_types.specs.Due.{Pub, release_to, is_due, taken_back}
+use Rattle.news_types.specs.Due.{Pub, release_to, is_due, had_by, latest, taken_back}
 use Rattle.news_types.specs.Publications.{standing}
 use Rattle.news_types.specs.Delivery.{acked, tries, tried}
 use Rattle.publish_queue.specs.declared.queue.Queue.{Queue}
 use Rattle.publish_queue.specs.Keeps.{Keeps, HasRoom, HasSpare, IsFair}
-use Rattle.publish_queue.specs.Withdrawn.{AreOfItem}
+use Rattle.publish_queue.specs.declared.release.Span.{Span}
+use Rattle.publish_queue.specs.Withdrawn.{AreOfItem, HasRelease, AreWithin}
 use Rattle.publish_queue.specs.Order.{Differ}
-use Rattle.publish_queue.specs.Many.{names_in}
+use Rattle.publish_queue.specs.Many.{names_in, is_within}
 use Rattle.publications.specs.declared.table.FirstFacts.{FirstFacts}
 use Rattle.story_tables.specs.declared.feeds.FeedStep.{FeedStep}
 use Rattle.story_tables.specs.declared.feeds.FeedStep.TheVariants.{Subscriber, Resume, Publish, TakeBack, Withdraw, Nothing}
@@ -57,24 +59,47 @@ pub record Issues (number release : ℕ) (due : List Due) (h g : History) : Type
   pub fair : IsFair p
   pub known : (s : Bytes) → is_due s p ≡ true → is_in s (subscribers h) ≡ true
 
--- what waits of an item is taken back at the moment of the entry, at which one more is due to these
-pub record Retracts (numbers : List ℕ) (number : ℕ) (due : List Due) (h g : History) : Type 0 where
+-- ---- when what stands of an item is released
+
+abbrev pub last_release : List Due → Bytes → ℕ
+last_release newest s = unwrap_or (release_to s newest) 0
+
+abbrev pub span_by : List Due → Due → Span
+span_by newest d = record { subscriber = d.subscriber; first = d.release; last = last_release newest d.subscriber }
+
+-- from the first release for each subscriber to the newest
+abbrev pub spans_of : List Due → List Due → List Span
+spans_of soonest newest = map (span_by newest) soonest
+
+-- for each subscriber from the first release of what stands of the item to the latest
+abbrev pub AreSpansOf : List Span → List Pub → ℕ → Type 0
+AreSpansOf spans st i = (s : Bytes) (moment : ℕ) → is_within s moment spans ≡ (had_by moment st i s && nat_le moment (latest st i s))
+
+-- ---- what is withdrawn
+
+-- what waits of an item, and is released within the spans, is taken back at the moment of the entry, at which one more is due to
+-- these
+pub record Retracts (numbers : List ℕ) (spans : List Span) (number : ℕ) (due : List Due) (h g : History) : Type 0 where
   pub subscribed : subscribers g ≡ subscribers h
   pub sent : SameDelivery h g
   pub p : Pub
   pub stands : standing g ≡ p ∷ taken_back (moment g) p.item (standing h)
   pub are : AreOfItem (moment g) p.item numbers (standing h)
+  pub within : AreWithin (moment g) numbers spans (standing h)
   pub is_number : p.number ≡ number
   pub is_release : p.release ≡ moment g
   pub is_due_to : (s : Bytes) → release_to s p.due ≡ release_to s due
   pub fair : IsFair p
   pub known : (s : Bytes) → is_due s p ≡ true → is_in s (subscribers h) ≡ true
 
-pub record Takes (number : ℕ) (h g : History) : Type 0 where
+-- the publication of that number, which waits for its release, and is released to each within the spans, is withdrawn
+pub record Takes (number release : ℕ) (spans : List Span) (h g : History) : Type 0 where
   pub subscribed : subscribers g ≡ subscribers h
   pub sent : SameDelivery h g
   pub stands : standing g ≡ filter (λ (p : Pub). not (p.number == number)) (standing h)
   pub waits : Each (λ (p : Pub). p.number ≡ number → moment h < p.release) (standing h)
+  pub has : HasRelease number release (standing h)
+  pub within : AreWithin (moment h) (number ∷ []) spans (standing h)
 
 pub record Stays (h g : History) : Type 0 where
   pub subscribed : subscribers g ≡ subscribers h
@@ -86,15 +111,15 @@ abbrev pub FeedsFor : FeedStep → History → History → Type 0
 FeedsFor (Subscriber name) h g = Adds name h g
 FeedsFor (Resume name) h g = Resumes name h g
 FeedsFor (Publish number release due) h g = Issues number release due.items h g
-FeedsFor (TakeBack numbers number due) h g = Retracts numbers.items number due.items h g
-FeedsFor (Withdraw number) h g = Takes number h g
+FeedsFor (TakeBack numbers spans number due) h g = Retracts numbers.items spans.items number due.items h g
+FeedsFor (Withdraw number release spans) h g = Takes number release spans.items h g
 FeedsFor Nothing h g = Stays h g
 
 -- the queue has the memory for the step
 abbrev pub HasFeedRoom : Queue → FeedStep → Type 0
 HasFeedRoom q (Subscriber name) = HasSpare q
 HasFeedRoom q (Publish number release due) = HasRoom q (names_in due.items) × Differ (names_in due.items)
-HasFeedRoom q (TakeBack numbers number due) = HasRoom q (names_in due.items) × Differ (names_in due.items)
+HasFeedRoom q (TakeBack numbers spans number due) = HasRoom q (names_in due.items) × Differ (names_in due.items)
 HasFeedRoom q _ = Unit {0}
 
 -- what a command that publishes and withdraws nothing does to the feeds
@@ -103,7 +128,7 @@ feeds_of (command.AddSubscriber subscriber format products lag) = Subscriber sub
 feeds_of (command.Resume subscriber) = Resume subscriber
 feeds_of _ = Nothing
 
--- what the feeds lose with an item's first publication, if one stands
-abbrev pub withdrawal_of : Option FirstFacts → FeedStep
-withdrawal_of None = Nothing
-withdrawal_of (Some first) = Withdraw first.number
+-- what the feeds lose with an item's first publication, if one stands, which is released to each within its span
+abbrev pub withdrawal_of : Option FirstFacts → Vec Span Global → FeedStep
+withdrawal_of None spans = Nothing
+withdrawal_of (Some first) spans = Withdraw first.number first.release spans

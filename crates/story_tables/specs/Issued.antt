@@ -12,9 +12,11 @@ use Rattle.news_types.specs.Due.{Pub, takes_back, taken_back, had, had_by}
 use Rattle.news_types.specs.Items.{Item}
 use Rattle.news_types.specs.Publications as publications
 use Rattle.news_types.specs.Publications.{noted}
+use Rattle.publications.specs.Numbers.{numbers_of}
 use Rattle.publications.specs.Keeps.{Tells}
 use Rattle.publications.specs.Later.{Corrects, TakesBack}
 use Rattle.story_tables.specs.declared.issue.Issue.{Issue}
+use Rattle.story_tables.specs.Feeds.{AreSpansOf}
 use Rattle.story_tables.specs.declared.feeds.FeedStep.{FeedStep}
 use Rattle.story_tables.specs.declared.feeds.FeedStep.TheVariants.{Publish, TakeBack}
 
@@ -63,8 +65,8 @@ abbrev pub given_by_kind : Kind → Story → Option Story
 given_by_kind Correct story = Some story
 given_by_kind _ story = None
 
--- a publication of that kind and number is due to these, where the publications of its item have these numbers
-abbrev pub IsStepOf : FeedStep → Kind → List ℕ → ℕ → ℕ → Vec Due Global → Type 0
-IsStepOf (Publish n r d) kind numbers number release due = (takes_back kind ≡ false) × (n ≡ number) × (r ≡ release) × (d ≡ due)
-IsStepOf (TakeBack ns n d) kind numbers number release due = (takes_back kind ≡ true) × (ns.items ≡ numbers) × (n ≡ number) × (d ≡ due)
-IsStepOf _ kind numbers number release due = ⊥
+-- a publication of the item, of that kind and number, is due to these, where these are published and those stand
+abbrev pub IsStepOf : FeedStep → Kind → ℕ → List Pub → List Pub → ℕ → ℕ → Vec Due Global → Type 0
+IsStepOf (Publish n r d) kind i ps st number release due = (takes_back kind ≡ false) × (n ≡ number) × (r ≡ release) × (d ≡ due)
+IsStepOf (TakeBack ns spans n d) kind i ps st number release due = (takes_back kind ≡ true) × (ns.items ≡ numbers_of i ps) × AreSpansOf spans.items st i × (n ≡ number) × (d ≡ due)
+IsStepOf _ kind i ps st number release due = ⊥

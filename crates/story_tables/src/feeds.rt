@@ -7,7 +7,7 @@ ghost use Rattle.publish_queue.specs.Many.{names_in};
 ghost use Rattle.story_tables.specs.Feeds.{KeepsQueue, FeedsFor, HasFeedRoom, Issues, Retracts};
 
 use news_types::{Due, Moment, Name};
-use publish_queue::Queue;
+use publish_queue::{Queue, Span};
 
 /// What an entry does to the feeds, apart from their going on to its moment.
 #[derive(Drop)]
@@ -23,14 +23,19 @@ pub(crate) enum FeedStep {
         due: Vec<Due>,
     },
     /// The publications of these numbers are withdrawn for those to whom they are not released by the moment of the entry,
-    /// and one at that moment is due to these.
+    /// where they are released within the spans, and one at that moment is due to these.
     TakeBack {
         numbers: Vec<u32>,
+        spans: Vec<Span>,
         number: u32,
         due: Vec<Due>,
     },
-    /// The publication of that number, which waits, is withdrawn.
-    Withdraw(u32),
+    /// The publication of that number, which waits for its release, is withdrawn. It is released to each within its span.
+    Withdraw {
+        number: u32,
+        release: Moment,
+        spans: Vec<Span>,
+    },
     Nothing,
 }
 
@@ -55,11 +60,16 @@ pub(crate) fn go(queue: &mut Queue, step: FeedStep, moment: Moment)
         } => publish(queue, number, release, &due, moment),
         FeedStep::TakeBack {
             numbers,
+            spans,
             number,
             due,
-        } => take_back(queue, &numbers, number, &due, moment),
-        FeedStep::Withdraw(number) => {
-            queue.withdraw(number);
+        } => take_back(queue, &numbers, &spans, number, &due, moment),
+        FeedStep::Withdraw {
+            number,
+            release,
+            spans,
+        } => {
+            queue.withdraw(number, release, &spans);
             queue.advance(moment);
         }
         FeedStep::Nothing => queue.advance(moment),
@@ -76,14 +86,21 @@ fn publish(queue: &mut Queue, number: u32, release: Moment, due: &[Due], moment:
     queue.advance(moment);
 }
 
-/// Goes on to the moment, withdraws what waits of these numbers, and adds a publication at the moment that is due to these. It
-/// takes no memory.
-fn take_back(queue: &mut Queue, numbers: &[u32], number: u32, due: &[Due], moment: Moment)
+/// Goes on to the moment, withdraws what waits of these numbers and is released within the spans, and adds a publication at the
+/// moment that is due to these. It takes no memory.
+fn take_back(
+    queue: &mut Queue,
+    numbers: &[u32],
+    spans: &[Span],
+    number: u32,
+    due: &[Due],
+    moment: Moment,
+)
     requires room { HasRoom queue.old (names_in due.now) }
     requires differ { Differ (names_in due.now) }
-    ensures { (h g : History) → KeepsQueue queue.old h (last_moment h) → Retracts numbers.now number due.now h g → last_moment h ≤ moment → last_moment g ≡ moment → KeepsQueue queue.new g moment }
+    ensures { (h g : History) → KeepsQueue queue.old h (last_moment h) → Retracts numbers.now spans.now number due.now h g → last_moment h ≤ moment → last_moment g ≡ moment → KeepsQueue queue.new g moment }
 {
     queue.advance(moment);
-    queue.take_back(numbers);
+    queue.take_back(numbers, spans);
     queue.add(number, moment, due);
 }

@@ -10,8 +10,11 @@ ghost use Rattle.news_types.specs.declared.entry.Act.TheVariants.{Request};
 ghost use Rattle.news_types.specs.declared.words.Kind.TheVariants as kind;
 ghost use Rattle.publications.specs.Keeps.{Keeps as KeepsPublications, Tells, shown};
 ghost use Rattle.publications.specs.Steps.{HasRoom as HasPublicationRoom, IsFor as IsForPublications};
+ghost use Rattle.publish_queue.specs.declared.queue.Queue.{Queue};
+ghost use Rattle.publish_queue.specs.Keeps.{HasRoom as HasQueueRoom};
 ghost use Rattle.publish_queue.specs.Order.{Differ};
 ghost use Rattle.publish_queue.specs.Many.{names_in};
+ghost use Rattle.story_tables.specs.Feeds.{HasFeedRoom};
 ghost use Rattle.story_tables.specs.Issued.{issues, issued_of, issue_shown, left_by_kind, IsTold, given_by_kind, IsStepOf};
 ghost use Rattle.story_tables.specs.Keeps.{KeepsStories, HasPlace};
 ghost use Rattle.story_tables.specs.Parts.{HasRoom, IsFor};
@@ -61,14 +64,7 @@ impl Stories {
             &due,
         )?;
         self.queue.reserve_for(names)?;
-        let feeds = step_of(
-            self.alloc,
-            kind,
-            self.publications.numbers(item),
-            number,
-            release,
-            due,
-        )?;
+        let feeds = self.step_of(kind, item, number, release, due)?;
         Ok(Parts {
             moment,
             reply: Reply {
@@ -81,6 +77,33 @@ impl Stories {
             publications,
             feeds,
         })
+    }
+
+    /// What a publication of the item, of that kind, does to the feeds.
+    fn step_of(
+        &self,
+        kind: Kind,
+        item: u32,
+        number: u32,
+        release: Moment,
+        due: Vec<Due>,
+    ) -> Result<FeedStep, Memory>
+        ensures step { (ps st : List Pub) → KeepsPublications self.now.publications ps st → IfOk result (λ step. IsStepOf step kind item ps st number release due) }
+        ensures room { (queue : Queue) → HasQueueRoom queue (names_in due.items) → Differ (names_in due.items) → IfOk result (λ step. HasFeedRoom queue step) }
+    {
+        match kind {
+            Kind::First | Kind::Correct => Ok(FeedStep::Publish {
+                number,
+                release,
+                due,
+            }),
+            Kind::Kill | Kind::Recall => Ok(FeedStep::TakeBack {
+                numbers: Vec::from_slice(self.alloc, self.publications.numbers(item))?,
+                spans: self.spans(item)?,
+                number,
+                due,
+            }),
+        }
     }
 }
 
@@ -152,29 +175,4 @@ fn prepare_first(
         newest: Vec::from_slice(alloc, due)?,
     };
     publications.prepare(row, of)
-}
-
-/// What a publication of that kind does to the feeds, where the publications of its item have these numbers.
-fn step_of(
-    alloc: Global,
-    kind: Kind,
-    numbers: &[u32],
-    number: u32,
-    release: Moment,
-    due: Vec<Due>,
-) -> Result<FeedStep, Memory>
-    ensures { IfOk result (λ step. IsStepOf step kind numbers.now number release due) }
-{
-    match kind {
-        Kind::First | Kind::Correct => Ok(FeedStep::Publish {
-            number,
-            release,
-            due,
-        }),
-        Kind::Kill | Kind::Recall => Ok(FeedStep::TakeBack {
-            numbers: Vec::from_slice(alloc, numbers)?,
-            number,
-            due,
-        }),
-    }
 }

@@ -14,6 +14,7 @@ mod prepare;
 mod publish;
 mod report;
 mod routed;
+mod spans;
 mod stories;
 mod withdraw;
 

@@ -15,6 +15,7 @@ use crate::parts::Parts;
 use crate::stories::Stories;
 use news_types::{Command, Memory, Moment, Reply};
 use publications::{FirstFacts, PublicationChange};
+use publish_queue::Span;
 
 impl Stories {
     /// What a deschedule of an item does, behind so many entries.
@@ -31,6 +32,7 @@ impl Stories {
             → IfOk result (λ parts. IsFor parts moment (Request caller number (command.Deschedule item)) h) }
     {
         let items = self.prepare_set(&Command::Deschedule { item }, moment)?;
+        let spans = self.spans(item)?;
         Ok(Parts {
             moment,
             reply: Reply {
@@ -41,17 +43,21 @@ impl Stories {
             },
             items,
             publications: PublicationChange::withdraw(item),
-            feeds: withdrawal(self.publications.first(item)),
+            feeds: withdrawal(self.publications.first(item), spans),
         })
     }
 }
 
-/// What the feeds lose with an item's first publication, if one stands.
-fn withdrawal(first: Option<FirstFacts>) -> FeedStep
-    ensures { result ≡ withdrawal_of first }
+/// What the feeds lose with an item's first publication, if one stands, which is released to each within its span.
+fn withdrawal(first: Option<FirstFacts>, spans: Vec<Span>) -> FeedStep
+    ensures { result ≡ withdrawal_of first spans }
 {
     match first {
-        Some(first) => FeedStep::Withdraw(first.number),
+        Some(first) => FeedStep::Withdraw {
+            number: first.number,
+            release: first.release,
+            spans,
+        },
         None => FeedStep::Nothing,
     }
 }

@@ -1,5 +1,4 @@
 use Rattle.std.proofs.Common.{◌≡◌, ◌∙◌, arith}
-use Rattle.publish_queue.specs.Rows.{Rising}
 use Rattle.publish_queue.specs.Steps.{IsAdded}
 use Rattle.publish_queue.proofs.Many.{sets, sets_then}
 use Rattle.publish_queue.proofs.InTurn.{names_kept, ordered_kept, added_alike}
@@ -9,10 +8,10 @@ pub returns-clause-sets : goal.returns-clause-sets
 returns-clause-sets c =
     let r = c.args.release in
     let m = c.args.moment in
-    let first = sets (λ f g. (g.name ≡ f.name) × (Rising f.waiting.releases.items → IsAdded r m f g)) _ _ c.index_mut.result.now c.add.new.self (omega (arith, c.args.feeds.now.ok.0, c.requires.within)) c.index_mut.ensures.value (c.add.ensures.name, c.add.ensures.added) in
+    let first = sets (λ f g. (g.name ≡ f.name) × IsAdded r m f g) _ _ c.index_mut.result.now c.add.new.self (omega (arith, c.args.feeds.now.ok.0, c.requires.within)) c.index_mut.ensures.value (c.add.ensures.name, c.add.ensures.added) in
     sets_then _ _ _ _ _ _ _ first c.settle_at.ensures.sets (λ f g h a b. record {
       name = b.alike.delivery.name ∙ a.0;
-      added = λ rises. added_alike r m f g h (a.1 rises) b.alike;
+      added = added_alike r m f g h a.1 b.alike;
       turn = b.turn;
     })
 

@@ -1,6 +1,7 @@
-use Rattle.publish_queue.specs.Steps.{IsWithdrawn}
-use Rattle.publish_queue.proofs.Many.{Walked}
+use Rattle.std.proofs.Common.{take}
+use Rattle.publish_queue.specs.Many.{EachGoes, IsWithdrawnBy}
 use Rattle.publish_queue.proofs.feeds.withdraw_all.Given as goal
 
-abbrev pub invariant-loop-feed : goal.invariant-loop-feed
-invariant-loop-feed l = Walked (IsWithdrawn l.numbers) l.feed-index l.fn.feeds.items l.feed-items
+-- the feeds have lost what lies in the spans so far
+abbrev pub invariant-loop-span : goal.invariant-loop-span
+invariant-loop-span l = EachGoes (IsWithdrawnBy l.numbers (take l.span-index l.spans)) l.fn.feeds.items l.feeds.items

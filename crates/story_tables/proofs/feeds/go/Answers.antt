@@ -1,4 +1,7 @@
-use Rattle.std.proofs.Common.{sym, subst}
+use Rattle.std.proofs.Common.{[], ◌∷◌, sym, subst}
+use Rattle.news_types.specs.History.{moment}
+use Rattle.news_types.specs.Publications.{standing}
+use Rattle.publish_queue.specs.Withdrawn.{AreWithin}
 use Rattle.story_tables.proofs.Carried.{alike}
 use Rattle.story_tables.specs.Feeds.{Adds, Resumes, Issues, Retracts, Takes, Stays}
 use Rattle.story_tables.proofs.feeds.go.Goals as goal
@@ -20,15 +23,16 @@ returns-in-Publish c h g keeps is later at =
 
 pub returns-in-TakeBack : goal.returns-in-TakeBack
 returns-in-TakeBack c h g keeps is later at =
-    let does : Retracts c.in-TakeBack.numbers.items c.in-TakeBack.number c.in-TakeBack.due.items h g = rw c.in-TakeBack.is at is in
+    let does : Retracts c.in-TakeBack.numbers.items c.in-TakeBack.spans.items c.in-TakeBack.number c.in-TakeBack.due.items h g = rw c.in-TakeBack.is at is in
     c.take_back.ensures h g keeps
-    (subst (λ l. Retracts c.deref-in-TakeBack.result.now c.in-TakeBack.number l h g) (sym c.deref-in-TakeBack-2.ensures.value)
-    (subst (λ l. Retracts l c.in-TakeBack.number c.in-TakeBack.due.items h g) (sym c.deref-in-TakeBack.ensures.value) does)) later at
+    (subst (λ l. Retracts c.deref-in-TakeBack.result.now c.deref-in-TakeBack-2.result.now c.in-TakeBack.number l h g) (sym c.deref-in-TakeBack-3.ensures.value)
+    (subst (λ l. Retracts c.deref-in-TakeBack.result.now l c.in-TakeBack.number c.in-TakeBack.due.items h g) (sym c.deref-in-TakeBack-2.ensures.value)
+    (subst (λ l. Retracts l c.in-TakeBack.spans.items c.in-TakeBack.number c.in-TakeBack.due.items h g) (sym c.deref-in-TakeBack.ensures.value) does))) later at
 
 pub returns-in-Withdraw : goal.returns-in-Withdraw
 returns-in-Withdraw c h g keeps is later at =
-    let does : Takes c.in-Withdraw.number h g = rw c.in-Withdraw.is at is in
-    c.advance-in-Withdraw.ensures.keeps _ _ _ _ _ _ (alike _ _ _ _ _ _ _ _ _ _ _ _ does.subscribed does.stands does.sent.receipts does.sent.attempts does.sent.last (c.withdraw.ensures.keeps _ _ _ _ _ _ keeps does.waits)) later
+    let does : Takes c.in-Withdraw.number c.in-Withdraw.release c.in-Withdraw.spans.items h g = rw c.in-Withdraw.is at is in
+    c.advance-in-Withdraw.ensures.keeps _ _ _ _ _ _ (alike _ _ _ _ _ _ _ _ _ _ _ _ does.subscribed does.stands does.sent.receipts does.sent.attempts does.sent.last (c.withdraw.ensures.keeps _ _ _ _ _ _ keeps does.waits does.has (subst (λ l. AreWithin (moment h) (c.in-Withdraw.number ∷ []) l (standing h)) (sym c.deref-in-Withdraw.ensures.value) does.within))) later
 
 pub returns-in-Nothing : goal.returns-in-Nothing
 returns-in-Nothing c h g keeps is later at =

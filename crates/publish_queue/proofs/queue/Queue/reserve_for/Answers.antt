@@ -1,4 +1,5 @@
-use Rattle.std.proofs.Common.{sym, ◌∙◌}
+use Rattle.std.proofs.Common.{sym, ap, ◌∙◌}
+use Rattle.publish_queue.specs.Rows.{live}
 use Rattle.publish_queue.specs.Many.{IsSame}
 use Rattle.publish_queue.specs.Keeps.{IsFeed}
 use Rattle.publish_queue.proofs.Many.{each_names}
@@ -12,7 +13,7 @@ returns-clause-keeps c names ps m acked tries tried keeps = record {
   subscribed = keeps.subscribed;
   feeds = feeds_go IsSame (IsFeed ps m acked tries tried) (IsFeed ps m acked tries tried) _ _ c.reserve_all.ensures.alike (λ f g is r. is_feed_same ps m f g is r) keeps.feeds;
   others = keeps.others;
-  waits = c.reserve.ensures.releases ∙ keeps.waits;
+  waits = ap live c.reserve.ensures.releases ∙ keeps.waits;
   next = keeps.next;
   fair = keeps.fair;
   ordered = ordered_each _ _ _ c.reserve_all.ensures.alike.long (λ k d lt. (c.reserve_all.ensures.alike.each k d lt).alike.delivery.name) (λ k d lt. (c.reserve_all.ensures.alike.each k d lt).turn) keeps.ordered;

@@ -16,5 +16,5 @@ returns-clause-change c h caller number keeps counted legal =
       reply = reply_is c.args.entries _ i _ counted refl;
       items = c.in_ok-items.ensures.change h caller number keeps refl;
       publications = deschedule_publications h m number i caller legal c.withdraw.result c.withdraw.ensures;
-      feeds = subst (λ f. FeedsFor f h (entry_of m (Request caller number (Deschedule i)) ∷ h)) (sym c.withdrawal.ensures) (deschedule_feeds h m number i caller legal c.first.result (c.first.ensures _ _ keeps.publications));
+      feeds = subst (λ f. FeedsFor f h (entry_of m (Request caller number (Deschedule i)) ∷ h)) (sym c.withdrawal.ensures) (deschedule_feeds h m number i caller legal c.first.result c.in_ok-spans.spans (c.in_ok-spans.ensures _ _ keeps.publications) (c.first.ensures _ _ keeps.publications));
     }

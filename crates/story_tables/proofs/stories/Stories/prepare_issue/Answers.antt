@@ -2,6 +2,7 @@ use Rattle.std.proofs.Common.{◌∷◌, refl, sym, ap, subst, ◌∙◌}
 use Rattle.news_types.specs.declared.entry.Act.TheVariants.{Request}
 use Rattle.news_types.specs.Outcome.{entry_of}
 use Rattle.news_types.specs.Publications.{made, pubs, standing, issued_by_command}
+use Rattle.publish_queue.specs.Keeps.{HasRoom as HasQueueRoom}
 use Rattle.publish_queue.specs.Order.{Differ}
 use Rattle.publications.specs.Steps.{IsFor as IsForPublications}
 use Rattle.story_tables.specs.declared.issue.Issue.{Issue}
@@ -32,8 +33,15 @@ returns-clause-change c h caller number keeps counted issues legal same are =
           (subst (λ l. IsForPublications c.in_ok-publications.publications (pubs h) (standing h) (p ∷ pubs h) l) (sym (issued_standing h m number caller command what it found.2 found.3 does legal))
           (c.in_ok-publications.ensures.change (pubs h) (standing h) p keeps.publications found.4 number_is (subst (λ l. IsTold what.kind p l (standing h)) (sym c.deref.ensures.value) (does.told c.args.due.items differ due_is))));
       feeds = issued_feeds h m number caller command what it found.2 found.3 does legal c.in_ok-feeds.feeds n c.args.due
-          (step_for c.in_ok-feeds.feeds h c.args.issue what it c.numbers.result.now n c.args.due found.4 (c.numbers.ensures _ _ (c.prepare_publication.ensures.stays _ _ keeps.publications)) c.in_ok-feeds.ensures) number_is due_is;
+          (step_for c.in_ok-feeds.feeds h c.args.issue what it n c.args.due found.4 (c.in_ok-feeds.ensures.step (pubs h) (standing h) (c.prepare_publication.ensures.stays _ _ keeps.publications))) number_is due_is;
     }
+
+pub returns-clause-room : goal.returns-clause-room
+returns-clause-room c = record {
+  items = c.set_to-items.ensures.room;
+  publications = c.in_ok-publications.ensures.room;
+  feeds = c.in_ok-feeds.ensures.room c.reserve_for.new.self (subst (HasQueueRoom c.reserve_for.new.self) (sym c.requires.names) c.in_ok-reserve_for.ensures.ok) (subst Differ (sym c.requires.names) c.requires.differ);
+}
 
 pub returns-in_err-publications-clause-stays : goal.returns-in_err-publications-clause-stays
 returns-in_err-publications-clause-stays c h keeps = record { items = keeps.items; publications = c.prepare_publication.ensures.stays _ _ keeps.publications; queue = keeps.queue }
