@@ -8,7 +8,7 @@ use Rattle.news_types.specs.declared.query.Query.{Query}
 use Rattle.news_types.specs.declared.query.Answer.{Answer as Told}
 use Rattle.news_types.specs.Names.{Bytes}
 use Rattle.news_types.specs.History.{History, moment_at}
-use Rattle.news_types.specs.Books.{Book, followed_by}
+use Rattle.news_types.specs.Books.{Book, followed_by, onto}
 use Rattle.news_types.specs.Doubt.{IsWithin}
 use Rattle.news_types.specs.Answers.{query_answer}
 use Rattle.news_types.specs.Frames.{Writer, frame_bytes_at}
@@ -17,27 +17,29 @@ use Rattle.news_types.specs.Legal.{some_waits}
 use Rattle.news_types.specs.Outcome.{Outcome, request, request_at, ingest, ingest_at, receipt}
 use Rattle.news_types.specs.Outcome as outcome
 use Rattle.news_types.specs.Calls.{Call, Requested, Ingested, Receipted, Ticked, Halted, Asked, Answer, Replied, Kept, Still, Tells, Full, Fault, Memory, Fate, IsKept, IsFull, IsFailed, IsStarved, follow, answer, given, list_after, doubt_after}
+use Rattle.news_types.specs.Server.{Server, put}
 use Rattle.news_io.specs.Keeper.{KeeperMeaning}
 use Rattle.entry_codec.specs.Spelling.{entry_bytes}
 use Rattle.news_room.specs.Beside.{Beside}
 use Rattle.news_room.specs.Stands.{LIMIT, LAST, numbers}
 use Rattle.news_room.specs.Said.{said, said_kept, said_tick, said_told, is_failure}
 use Rattle.news_room.specs.Steps.{Whole, Given, Refused, Failed, entries, Answers, Receives, RequestStep, IngestStep, ReceiptStep, TickStep, HaltStep, tick_entries, still, DoubtStep, ToldStep, After, is_fault, is_kept_fault, is_tick_fault}
-use Rattle.news_room.specs.Events.{IsEvent, Happens}
+use Rattle.news_room.specs.Events.{Serves, IsEvent, Happens}
 use Rattle.news_room.specs.declared.answers.Answered.{Answered}
 use Rattle.news_room.specs.declared.answers.Kept as kept
 use Rattle.news_room.specs.declared.answers.Ticked as ticks
 use Rattle.news_room.specs.declared.room.Room.{Room}
+use Rattle.news_room.proofs.Going.{still_less}
 
 -- ---- how the entry fared that would follow
 
-abbrev Fares : Beside → ℕ → Option Entry → List Entry → Fate → Type 0
+abbrev pub Fares : Beside → ℕ → Option Entry → List Entry → Fate → Type 0
 Fares n limit o more IsKept = Given n limit (entries o) more
 Fares n limit o more IsFull = (size : ℕ) × (count : ℕ) × Refused n limit (entries o) more size count
 Fares n limit o more IsFailed = Failed n limit (entries o) more
 Fares n limit o more IsStarved = Whole n [] more
 
-abbrev fails : Fate → Bool
+abbrev pub fails : Fate → Bool
 fails IsFailed = true
 fails _ = false
 
@@ -73,10 +75,6 @@ fares_list n limit h (Some e) more IsFull f = ap (λ (l : List Entry). followed_
 fares_list n limit h (Some e) more IsFailed f = ap (λ (l : List Entry). followed_by l h) (sym (alone e f.next more f.rest f.is).0)
 fares_list n limit h (Some e) more IsStarved f = ap (λ (l : List Entry). followed_by l h) (sym f.is)
 
-still_less : (D : Bytes → Type 0) (more : List Entry) (payload : Bytes) → still D more payload → D payload
-still_less D [] payload left = left
-still_less D (e ∷ es) payload left = absurd left
-
 fares_doubt : (D E : Bytes → Type 0) (doubt : List Entry) (n : Beside) (limit : ℕ) (o : Option Entry) (more : List Entry) (fate : Fate) → Fares n limit o more fate → DoubtStep D E (entries o) more (fails fate) → IsWithin entry_bytes D doubt
     → IsWithin entry_bytes E (doubt_after doubt o fate)
 fares_doubt D E doubt n limit None more IsKept f step within = λ x d. within x (still_less D more x (step x d))
@@ -94,19 +92,19 @@ fares_doubt D E doubt n limit (Some e) more IsStarved f step within = λ x d. wi
 
 -- ---- what the world gives in the end
 
-given_kept : (o : Option Entry) (a : Answer) → given o IsKept a ≡ a
+pub given_kept : (o : Option Entry) (a : Answer) → given o IsKept a ≡ a
 given_kept None a = refl
 given_kept (Some e) a = refl
 
-given_starved : (o : Option Entry) (a : Answer) → given o IsStarved a ≡ Memory
+pub given_starved : (o : Option Entry) (a : Answer) → given o IsStarved a ≡ Memory
 given_starved None a = refl
 given_starved (Some e) a = refl
 
-given_full : (n : Beside) (limit : ℕ) (o : Option Entry) (more : List Entry) (size count : ℕ) (a : Answer) → Refused n limit (entries o) more size count → given o IsFull a ≡ Full
+pub given_full : (n : Beside) (limit : ℕ) (o : Option Entry) (more : List Entry) (size count : ℕ) (a : Answer) → Refused n limit (entries o) more size count → given o IsFull a ≡ Full
 given_full n limit None more size count a f = absurd (none_refused n limit more size count f)
 given_full n limit (Some e) more size count a f = refl
 
-given_failed : (n : Beside) (limit : ℕ) (o : Option Entry) (more : List Entry) (a : Answer) → Failed n limit (entries o) more → given o IsFailed a ≡ Fault
+pub given_failed : (n : Beside) (limit : ℕ) (o : Option Entry) (more : List Entry) (a : Answer) → Failed n limit (entries o) more → given o IsFailed a ≡ Fault
 given_failed n limit None more a f = absurd (none_failed n limit more f)
 given_failed n limit (Some e) more a f = refl
 
@@ -157,17 +155,22 @@ halt_fared n b now more (ticks.Ticked.Full size count) step = fared_full n LAST 
 -- ---- the events
 
 module _ {K : Type 0} (keeper : KeeperMeaning K) where
+  -- a server behind an entry that fared so
+  pub serves_put : (old new : Room K) (b : Book) (o : Option Entry) (more : List Entry) (limit : ℕ) (fate : Fate) → Fares (numbers keeper old new) limit o more fate
+      → (b.told ≡ true → DoubtStep (keeper.doubts old.keeper) (keeper.doubts new.keeper) (entries o) more (fails fate)) → (c : Server) → Serves keeper old b c → Serves keeper new (onto more b) (put c o fate)
+  serves_put old new b o more limit fate fares doubt c s = record {
+    list_is = ap (λ (l : History). list_after l o fate) s.list_is ∙ fares_list (numbers keeper old new) limit b.list o more fate fares;
+    doubt = λ t. fares_doubt (keeper.doubts old.keeper) (keeper.doubts new.keeper) c.doubt (numbers keeper old new) limit o more fate fares (doubt t) (s.doubt t);
+  }
+
   event : (old new : Room K) (b : Book) (more : List Entry) (call : Call) (now limit : ℕ) (was heard : Answer) → ((write : Writer) → answer write b.list call (moment_at b.list now) ≡ was)
       → Fared (numbers keeper old new) limit (follow b.list call (moment_at b.list now)) more was heard
       → (b.told ≡ true → ToldStep keeper old new b (entries (follow b.list call (moment_at b.list now))) more (is_failure heard)) → IsEvent keeper old new b more call now heard
   event old new b more call now limit was heard same x told = record {
     fate = x.fate;
-    serves = λ c s. record {
-      list_is = ap (λ (l : History). list_after l (follow l call (moment_at l now)) x.fate) s.list_is ∙ fares_list (numbers keeper old new) limit b.list (follow b.list call (moment_at b.list now)) more x.fate x.fares;
-      doubt = λ t. subst (λ (l : History). IsWithin entry_bytes (keeper.doubts new.keeper) (doubt_after c.doubt (follow l call (moment_at l now)) x.fate)) (sym s.list_is)
-          (fares_doubt (keeper.doubts old.keeper) (keeper.doubts new.keeper) c.doubt (numbers keeper old new) limit (follow b.list call (moment_at b.list now)) more x.fate x.fares
-          (subst (DoubtStep (keeper.doubts old.keeper) (keeper.doubts new.keeper) (entries (follow b.list call (moment_at b.list now))) more) (sym x.fails_is) (told t).doubt) (s.doubt t));
-    };
+    serves = λ c s. subst (λ (l : History). Serves keeper new (onto more b) (put c (follow l call (moment_at l now)) x.fate)) (sym s.list_is)
+        (serves_put old new b (follow b.list call (moment_at b.list now)) more limit x.fate x.fares
+        (λ t. subst (DoubtStep (keeper.doubts old.keeper) (keeper.doubts new.keeper) (entries (follow b.list call (moment_at b.list now))) more) (sym x.fails_is) (told t).doubt) c s);
     answers = λ c s. ap (λ (l : History). given (follow l call (moment_at l now)) x.fate (answer (the_writer b.store) l call (moment_at l now))) s.list_is
         ∙ ap (λ (a : Answer). given (follow b.list call (moment_at b.list now)) x.fate a) (same (the_writer b.store)) ∙ x.given_is;
   }

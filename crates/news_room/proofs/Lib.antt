@@ -1,4 +1,7 @@
 pub mod Appends
+pub mod Chosen
+pub mod ClaimEvents
+pub mod Claims
 pub mod Complete
 pub mod Crashes
 pub mod Decisions

@@ -1,5 +1,6 @@
 pub mod Appends
 pub mod Beside
+pub mod Claims
 pub mod Complete
 pub mod Events
 pub mod Log

@@ -6,15 +6,16 @@ ghost use Rattle.entry_codec.specs.Fits.{FitsAct};
 ghost use Rattle.news_room.specs.Stands.{SomeBook};
 
 mod acts;
+mod claims;
 mod faults;
 mod ingests;
 mod requests;
 
-use crate::{Answered, Kept, Room, Ticked};
+use crate::{Answered, Claimed, Kept, Room, Ticked};
 use entry_codec::decode;
 use news_io::{Keeper, MemoryKeeper};
 use news_types::{
-    Act, Answer, Command, Denial, FeedRow, FeedRows, Kind, Name, Query, Reply, Thing,
+    Act, Answer, Command, Denial, FeedRow, FeedRows, Kind, Moment, Name, Query, Reply, Thing,
 };
 use std::alloc::Global;
 use std::process::Abort;
@@ -38,6 +39,8 @@ enum Told {
     ReceiptAhead { length: u32 },
     Kept { entry: u64 },
     Still,
+    Job { k: u32, front: u64 },
+    Idle { next: Option<Moment> },
     Fault,
     Full { size: u64, length: u64 },
     Other,
@@ -78,6 +81,25 @@ fn tell_ticked(ticked: Ticked) -> Told {
         Ticked::Still => Told::Still,
         Ticked::Fault => Told::Fault,
         Ticked::Full { size, length } => Told::Full { size, length },
+    }
+}
+
+/// The frame of a job is to begin so.
+fn tell_claimed(rt: &impl Abort, claimed: Claimed, begin: &[u8]) -> Told {
+    match claimed {
+        Claimed::Job {
+            k,
+            frame,
+            front,
+            ..
+        } => {
+            assert!(rt; frame.as_slice().starts_with(begin));
+            Told::Job { k, front }
+        }
+        Claimed::Idle { next } => Told::Idle { next },
+        Claimed::Fault => Told::Fault,
+        Claimed::Full { size, length } => Told::Full { size, length },
+        Claimed::Memory => Told::Other,
     }
 }
 
@@ -159,6 +181,15 @@ fn halt(room: &mut Room<MemoryKeeper>, now: u64) -> Told
     tell_ticked(room.halt(now))
 }
 
+/// What a claim for `alpha` is answered.
+fn claim(rt: &impl Abort, room: &mut Room<MemoryKeeper>, now: u64) -> Told
+    requires { SomeBook ⟦<MemoryKeeper as Keeper>⟧.keeper room.old }
+    ensures { SomeBook ⟦<MemoryKeeper as Keeper>⟧.keeper room.new }
+{
+    let alpha = Name::read("alpha").expect(rt, "a name");
+    tell_claimed(rt, room.claim(now, &[alpha]), b"FRAME alpha 1 229\n")
+}
+
 /// The rows of the feed of `alpha` behind the first so many.
 fn rows_of(rt: &impl Abort, room: &Room<MemoryKeeper>, after: u32) -> FeedRows
     requires { SomeBook ⟦<MemoryKeeper as Keeper>⟧.keeper room.now }
@@ -191,6 +222,11 @@ fn flashed(entry: u64, item: u32, release: u64) -> Reply {
         publication: item,
         release,
     }
+}
+
+/// A job of entry 1 of a feed.
+fn job(front: u64) -> Told {
+    Told::Job { k: 1, front }
 }
 
 /// The row of a flashed story that stands in its feed at the place of its number.

@@ -2,7 +2,9 @@
 ghost use Rattle.std.specs.Prelude.{◌≡◌};
 ghost use Rattle.news_room.specs.Stands.{SomeBook};
 
-use super::{ADDED, FLASHED, Told, flashed, halt, receive, reply, room_beside, row, rows_of, send};
+use super::{
+    ADDED, FLASHED, Told, claim, flashed, job, receive, reply, room_beside, row, rows_of, send,
+};
 use crate::Room;
 use news_io::{Keeper, MemoryKeeper, Record};
 use news_types::Bytes;
@@ -10,8 +12,8 @@ use std::alloc::Global;
 use std::process::Abort;
 use uuid::Uuid;
 
-/// A halt at 5000.
-const HALTED: &[u8] = b"\0\0\0\0\0\0\x13\x88\x04";
+/// An attempt on entry 1 of `alpha` at 5000.
+const ATTEMPTED: &[u8] = b"\0\0\0\0\0\0\x13\x88\x02\x05alpha\0\0\0\x01";
 
 /// Of a feed of two entries no third is acknowledged, and what is acknowledged already is not kept again.
 #[test]
@@ -69,7 +71,7 @@ fn opened(rt: &impl Abort, alloc: Global, payloads: [&[u8]; 3]) -> Room<MemoryKe
     }
 }
 
-/// A moment never falls: where a halt was kept at 5000, and the room is opened again at 1400, a flash is released at 5000,
+/// A moment never falls: where a frame was sent at 5000, and the room is opened again at 1400, a flash is released at 5000,
 /// as the next entry of the feed.
 #[test]
 fn moments_never_fall(rt: HostRuntime) {
@@ -83,12 +85,12 @@ fn moments_never_fall(rt: HostRuntime) {
         send(&rt, alloc, &mut room, 1000, 2, FLASHED),
         Told::Done(flashed(2, 1, 1000))
     );
-    assert_eq!(rt; halt(&mut room, 5000), Told::Kept { entry: 3 });
+    assert_eq!(rt; claim(&rt, &mut room, 5000), job(3));
     let keeper = room.into_keeper();
     let kept = keeper.records();
     assert_eq!(rt; kept.len(), 3);
     let payloads = [kept[0].as_slice(), kept[1].as_slice(), kept[2].as_slice()];
-    assert_eq!(rt; payloads, [ADDED, FLASHED, HALTED]);
+    assert_eq!(rt; payloads, [ADDED, FLASHED, ATTEMPTED]);
     let mut again = opened(&rt, alloc, payloads);
     assert_eq!(rt;
         send(&rt, alloc, &mut again, 1400, 3, FLASHED),

@@ -1,4 +1,4 @@
-use Rattle.news_room.proofs.Complete.{outcomes_complete, receipts_complete, ticks_complete, halts_complete}
+use Rattle.news_room.proofs.Complete.{outcomes_complete, receipts_complete, ticks_complete, halts_complete, claims_complete}
 use Rattle.news_room.proofs.laws.completeness_law.Goals as goal
 
 pub returns-clause-outcomes : goal.returns-clause-outcomes
@@ -12,3 +12,6 @@ returns-clause-ticks c = ticks_complete
 
 pub returns-clause-halts : goal.returns-clause-halts
 returns-clause-halts c = halts_complete
+
+pub returns-clause-claims : goal.returns-clause-claims
+returns-clause-claims c = claims_complete
