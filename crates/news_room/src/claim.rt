@@ -54,8 +54,8 @@ impl<K: Keeper> Room<K> {
     /// Takes the next frame to send to one of these subscribers, at a reading of the clock, in seconds.
     ///
     /// What waits is released first, as by a tick. Of the feeds that are ready then, the one that has been so for longest
-    /// is chosen, and of several the one with the least name. Its attempt is kept behind its frame is made, so that want
-    /// of memory keeps none.
+    /// is chosen, and of several the one with the least name. Its frame is made before its attempt is kept, so that want of
+    /// memory keeps none.
     pub fn claim(&mut self, now: u64, names: &[Name]) -> Claimed
         requires stands { SomeBook K.keeper self.old }
         ensures { (more : List Entry) × ((b : Book) → Stands K.keeper self.old b
