@@ -7,11 +7,13 @@ mod Judging
 mod Sides
 mod Heads
 mod Stops
-mod WereRead
 mod Placed
+pub mod WereRead
 mod Sizes
 mod Ordering
 mod Chains
 mod Reread
 mod Filled
 mod PackLog
+pub mod Undamaged
+pub mod Finding

@@ -41,7 +41,7 @@ difference_missing : (place x : ℕ) (xs : List ℕ) → difference place (x ∷
 unfolding difference
 difference_missing place x xs = refl
 
-difference_same : (place x b : ℕ) (xs bytes : List ℕ) → b ≡ x → difference place (x ∷ xs) (b ∷ bytes) ≡ difference (place + 1) xs bytes
+pub difference_same : (place x b : ℕ) (xs bytes : List ℕ) → b ≡ x → difference place (x ∷ xs) (b ∷ bytes) ≡ difference (place + 1) xs bytes
 unfolding difference
 difference_same place x b xs bytes same = let t : eqb x b ≡ true = grind (arith, nat_tests) in rw t refl
 
@@ -49,7 +49,7 @@ difference_other : (place x b : ℕ) (xs bytes : List ℕ) → b ≢ x → diffe
 unfolding difference
 difference_other place x b xs bytes other = let t : eqb x b ≡ false = grind (arith, nat_tests) in rw t refl
 
-difference_ends : (place : ℕ) (bytes : List ℕ) → difference place [] bytes ≡ None
+pub difference_ends : (place : ℕ) (bytes : List ℕ) → difference place [] bytes ≡ None
 unfolding difference
 difference_ends place bytes = refl
 

@@ -296,12 +296,18 @@ room_long : (edition : ℕ) (base : List ℕ) (store : Bytes) → length store �
 unfolding room_head
 room_long edition base store long = omega (arith, length-append base (store ++ replicate 32 0), length-append store (replicate 32 0), long)
 
+-- the six bytes of a base are there
+pub six_bytes : (log store : List ℕ) (t : List Bytes) → length store ≡ 16 → opened (room_head (edition_of log) (base_bytes log) store) log ≡ Some t → length (base_bytes log) ≡ 6
+six_bytes log store t long is =
+    let head = room_head (edition_of log) (base_bytes log) store in
+    omega (arith, opened_long head log t is, room_long (edition_of log) (base_bytes log) store long, length-take 6 (drop 10 log), length-drop 10 log)
+
 -- a log is of one store
 pub one_store : (log : List ℕ) (store store' : Bytes) (t t' : List Bytes) → length store ≡ 16 → length store' ≡ 16 → opened (room_head (edition_of log) (base_bytes log) store) log ≡ Some t → opened (room_head (edition_of log) (base_bytes log) store') log ≡ Some t' → store ≡ store'
 one_store log store store' t t' long long' is is' =
     let edition = edition_of log in
     let base = base_bytes log in
-    let six_long : length base ≡ 6 = omega (arith, opened_long (room_head edition base store) log t is, room_long edition base store long, length-take 6 (drop 10 log), length-drop 10 log) in
+    let six_long : length base ≡ 6 = six_bytes log store t long is in
     let a = opened_begins (room_head edition base store) log t is in
     let b = opened_begins (room_head edition base store') log t' is' in
     sym (store_there edition base store six_long long a.0) ∙ ap (λ (l : List ℕ). take 16 (drop 16 l)) (sym a.1 ∙ b.1) ∙ store_there edition base store' six_long long' b.0

@@ -24,7 +24,7 @@ mod side_reading;
 mod unpacking;
 
 pub use fault::PairFault;
-pub use law::{only_segment_law, segment_law};
+pub use law::{only_segment_law, packable_law, segment_law, undamaged_law};
 pub use opening::OpenedPair;
 pub use pack_fault::PackFault;
 pub use pair::Pair;

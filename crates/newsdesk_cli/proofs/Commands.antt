@@ -15,8 +15,8 @@ use Rattle.news_pair.specs.Stands.{log_disk, side_disk}
 use Rattle.news_pair.specs.declared.pair.Pair.{Pair}
 use Rattle.news_journal.specs.declared.log.Journal.{Journal}
 use Rattle.news_room.specs.declared.room.Room.{Room}
-use Rattle.newsdesk_cli.specs.Batch.{Holds}
-use Rattle.newsdesk_cli.specs.Store.{IsOpenRoom}
+use Rattle.store_files.specs.Holds.{Holds}
+use Rattle.store_files.specs.Store.{IsOpenRoom}
 
 -- of a file's length
 pub is_empty : (bytes : List ℕ) (n : ℕ) → n ≡ length bytes → n ≡ 0 → bytes ≡ []

@@ -1,7 +1,7 @@
 pub mod Desks
 pub mod Outputs
-pub mod Stores
-pub mod Headers
 pub mod Commands
 pub mod Identifiers
-pub mod Counts
+pub mod Packing
+pub mod FilesLeft
+pub mod Serving

@@ -1,10 +1,8 @@
 -- A run over the lines of an input, by a room and a clock.
-use Rattle.std.specs.Prelude.{◌≡◌, ℕ, ◌+◌}
+use Rattle.std.specs.Prelude.{◌≡◌, ℕ}
 use Rattle.news_types.specs.Books.{Book}
 use Rattle.input_lines.specs.Lines.{ended, lines}
 use Rattle.line_run.specs.Status.{IsRun, CrashLeaves}
-use Rattle.news_room.specs.Log.{sizes}
-use Rattle.news_room.specs.Stands.{Stands}
 use Rattle.news_room.specs.declared.room.Room.{Room}
 use Rattle.newsdesk_cli.specs.Lines.{LONGEST_LINE, LONGEST_INPUT, of_line}
 use Rattle.newsdesk_cli.specs.Desk.{Shelf, book}
@@ -14,11 +12,6 @@ use Rattle.news_io.specs.Keeper.{KeeperMeaning}
 use Rattle.news_io.specs.Clock.{ClockMeaning}
 use Rattle.news_io.specs.Source.{SourceMeaning}
 use Rattle.news_io.specs.Sink.{SinkMeaning}
-
--- the room stands for the book, and its keeper uses so many bytes before the list's records
-pub record Holds {K : Type 0} (keeper : KeeperMeaning K) (r : Room K) (b : Book) (before : ℕ) : Type 0 where
-  pub stands : Stands keeper r b
-  pub uses : keeper.used r.keeper ≡ before + sizes b.list
 
 -- a desk that has this room and this clock
 pub record IsDesk {K C : Type 0} (d : LineDesk K C) (r : Room K) (c : C) : Type 0 where

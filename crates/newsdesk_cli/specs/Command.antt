@@ -3,6 +3,7 @@ use Rattle.std.specs.Prelude.{◌≡◌, ◌⊎◌, ◌≤◌, ℕ, ◌+◌, Boo
 use Rattle.news_types.specs.declared.query.Query.TheVariants as query
 use Rattle.news_types.specs.Names.{Bytes}
 use Rattle.news_types.specs.History.{History}
+use Rattle.news_types.specs.Doubt.{payloads}
 use Rattle.news_types.specs.Answers.{query_answer}
 use Rattle.news_io.specs.Faults.{Rose}
 use Rattle.news_io.specs.Clock.{ClockMeaning}
@@ -12,22 +13,28 @@ use Rattle.news_io.specs.Source.{SourceMeaning}
 use Rattle.line_run.specs.Life.{Wrote, AllPassed}
 use Rattle.line_run.specs.Status.{Told, IsComplete}
 use Rattle.desk_answers.specs.Answers.{answer_bytes}
+use Rattle.entry_codec.specs.Spelling.{entry_bytes}
 use Rattle.news_journal.specs.Created.{IsInTheMaking}
 use Rattle.news_journal.specs.Log.{header_bytes}
 use Rattle.news_journal.specs.Opened.{Still}
 use Rattle.news_journal.specs.declared.header.Header.TheVariants as header
 use Rattle.news_pair.specs.declared.pair.Pair.{Pair}
+use Rattle.news_pair.specs.declared.pack_fault.PackFault.{PackFault}
 use Rattle.news_pair.specs.Keeper.{pair_of}
+use Rattle.news_pair.specs.PackFaults.{FaultCounts}
 use Rattle.news_pair.specs.Stands.{log_disk, side_disk}
 use Rattle.news_room.specs.declared.room.Room.{Room}
 use Rattle.newsdesk_cli.specs.Batch.{Answered}
+use Rattle.newsdesk_cli.specs.FilesLeft.{FilesLeft}
 use Rattle.newsdesk_cli.specs.Lines.{no_frames, LONGEST_INPUT}
-use Rattle.newsdesk_cli.specs.Store.{IsRefused, IsOpenRoom}
-use Rattle.newsdesk_cli.specs.Trouble.{status_of, line_of}
-use Rattle.newsdesk_cli.specs.declared.trouble.Trouble.{Trouble}
-use Rattle.newsdesk_cli.specs.declared.trouble.Trouble.TheVariants as trouble
+use Rattle.newsdesk_cli.specs.Packing.{packed_line, Packs, PacksNot}
+use Rattle.store_files.specs.Files.{FilesHold, CrashKeeps}
+use Rattle.store_files.specs.Store.{IsRefused, IsOpenRoom}
+use Rattle.store_files.specs.Trouble.{status_of, line_of, trouble_of_pack}
+use Rattle.store_files.specs.declared.trouble.Trouble.{Trouble}
+use Rattle.store_files.specs.declared.trouble.Trouble.TheVariants as trouble
 use Rattle.newsdesk_cli.specs.declared.words.Job.{Job}
-use Rattle.newsdesk_cli.specs.declared.words.Job.TheVariants.{Init, Batch, Check}
+use Rattle.newsdesk_cli.specs.declared.words.Job.TheVariants.{Init, Batch, Check, Pack}
 
 -- the line before status 2
 abbrev pub usage : List ℕ
@@ -55,9 +62,18 @@ module _ {O : Type 0} (sink : SinkMeaning O) where
     pub status_is : status ≡ status_of t
     pub line : Told sink old new (line_of t)
 
-  -- what `check` answers of a list: its line, or the first of it where the output failed; or there was no memory
+  -- an answer's line was written; or the first of it, where the output has failed
+  abbrev pub IsTold : List ℕ → O → O → ℕ → Type 0
+  IsTold line old new status = ((status ≡ 0) × IsWritten old new line) ⊎ ((status ≡ 5) × IsCut old new line)
+
+  -- what `check` answers of a list: its line; or there was no memory
   abbrev pub IsChecked : History → O → O → ℕ → Type 0
-  IsChecked h old new status = ((status ≡ 0) × IsWritten old new (check_line h)) ⊎ (((status ≡ 5) × IsCut old new (check_line h)) ⊎ IsStopped trouble.Memory old new status)
+  IsChecked h old new status = IsTold (check_line h) old new status ⊎ IsStopped trouble.Memory old new status
+
+  -- the words are no command
+  pub record IsRefusedUse (old new : O) (status : ℕ) : Type 0 where
+    pub status_is : status ≡ 2
+    pub line : Told sink old new usage
 
 module _ {D O : Type 0} (disk : DiskMeaning D) (sink : SinkMeaning O) (log log' side side' : D) (o o' : O) (status : ℕ) where
   -- the files do not serve
@@ -72,10 +88,38 @@ module _ {D O : Type 0} (disk : DiskMeaning D) (sink : SinkMeaning O) (log log' 
     pub opened : IsOpenRoom disk log side room
     pub same : log' ≡ log_disk room.keeper
     pub same_side : side' ≡ side_disk room.keeper
+    pub files : disk.tells log → disk.tells side → FilesHold disk log' side' opened.store opened.history
     pub told : IsChecked sink opened.history o o' status
 
   abbrev pub IsCheck : Type 0
   IsCheck = NotOpened ⊎ HasChecked
+
+  -- the files were opened and packed, and the number of their entries told
+  pub record HasPacked : Type 0 where
+    pub room : Room (Pair D)
+    pub opened : IsOpenRoom disk log side room
+    pub pair : Pair D
+    pub same : log' ≡ log_disk pair
+    pub same_side : side' ≡ side_disk pair
+    pub packs : disk.tells log → disk.tells side → Packs disk opened.store (payloads entry_bytes opened.history) room.keeper pair
+    pub files : disk.tells log → disk.tells side → FilesHold disk log' side' opened.store opened.history
+    pub calm : disk.faults log' + disk.faults side' ≡ disk.faults log + disk.faults side
+    pub count : ℕ
+    pub counted : disk.tells log → disk.tells side → count ≡ length opened.history
+    pub told : IsTold sink (packed_line count) o o' status
+
+  -- the files were opened, and could not be packed
+  pub record HasNotPacked : Type 0 where
+    pub room : Room (Pair D)
+    pub opened : IsOpenRoom disk log side room
+    pub why : PackFault
+    pub packs_not : disk.tells log → disk.tells side → PacksNot disk opened.store (payloads entry_bytes opened.history) room.keeper log' side' why
+    pub files : disk.tells log → disk.tells side → CrashKeeps disk log' side' opened.store opened.history
+    pub counts : FaultCounts (disk.faults log + disk.faults side) (disk.faults log' + disk.faults side') why
+    pub stopped : IsStopped sink (trouble_of_pack why) o o' status
+
+  abbrev pub IsPack : Type 0
+  IsPack = NotOpened ⊎ (HasPacked ⊎ HasNotPacked)
 
 module _ {D O S C : Type 0} (disk : DiskMeaning D) (clock : ClockMeaning C) (source : SourceMeaning S) (sink : SinkMeaning O)
     (log log' side side' : D) (i i' : S) (o o' : O) (c c' : C) (status : ℕ) where
@@ -94,6 +138,7 @@ module _ {D O S C : Type 0} (disk : DiskMeaning D) (clock : ClockMeaning C) (sou
     pub same_side : side' ≡ side_disk after.keeper
     pub answered : (told : Bool) → (told ≡ true → disk.tells log × disk.tells side)
         → Answered (pair_of disk) clock source sink room after c c' i i' o o' (record { store = opened.store; told = told; list = opened.history }) 65 status
+    pub files : disk.tells log → disk.tells side → FilesLeft disk log side opened.store room after opened.history status
     pub complete : source.tells i → length (source.ahead i) ≤ LONGEST_INPUT → (Rose (source.faults i) (source.faults i') → ⊥) → (Rose (sink.faults o) (sink.faults o') → ⊥)
         → (Rose (disk.faults log + disk.faults side) (disk.faults log' + disk.faults side') → ⊥) → IsComplete status
 
@@ -148,14 +193,28 @@ module _ {D O S C : Type 0} (disk : DiskMeaning D) (clock : ClockMeaning C) (sou
 
   -- the words are no command
   pub record IsUsage : Type 0 where
-    pub status_is : status ≡ 2
     pub same : log' ≡ log
     pub same_side : side' ≡ side
-    pub line : Told sink o o' usage
+    pub refused : IsRefusedUse sink o o' status
 
   -- what these words do
   abbrev pub Does : Option Job → Type 0
   Does None = Unread × IsUsage
   Does (Some (Init store)) = Unread × IsInit disk sink store log log' side side' o o' status
   Does (Some Check) = Unread × IsCheck disk sink log log' side side' o o' status
+  Does (Some Pack) = Unread × IsPack disk sink log log' side side' o o' status
   Does (Some Batch) = IsBatch disk clock source sink log log' side side' i i' o o' c c' status
+
+-- the files are not refused for their bytes, and a failure is told only where the count of the disks rose
+pub record IsServed (before now status : ℕ) : Type 0 where
+  pub own : status ≡ 3 → ⊥
+  pub whole : status ≡ 7 → ⊥
+  pub failed : status ≡ 6 → Rose before now
+
+-- what a command answers on files that hold a list
+abbrev pub Serves : ℕ → ℕ → Option Job → ℕ → Type 0
+Serves before now None status = Unit {0}
+Serves before now (Some (Init store)) status = Unit {0}
+Serves before now (Some Batch) status = IsServed before now status
+Serves before now (Some Check) status = IsServed before now status
+Serves before now (Some Pack) status = IsServed before now status

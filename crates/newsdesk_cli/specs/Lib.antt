@@ -4,8 +4,7 @@ pub mod Desk
 pub mod Leaving
 pub mod Life
 pub mod Batch
+pub mod FilesLeft
 pub mod Command
 pub mod Words
-pub mod Trouble
-pub mod Kinds
-pub mod Store
+pub mod Packing

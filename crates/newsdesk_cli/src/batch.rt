@@ -3,7 +3,8 @@ ghost use Rattle.std.specs.Prelude.{◌≡◌, ◌≤◌, ℕ, length};
 ghost use Rattle.news_io.specs.Faults.{Rose};
 ghost use Rattle.news_types.specs.Books.{Book};
 ghost use Rattle.line_run.specs.Status.{IsComplete};
-ghost use Rattle.newsdesk_cli.specs.Batch.{Holds, Answered};
+ghost use Rattle.store_files.specs.Holds.{Holds};
+ghost use Rattle.newsdesk_cli.specs.Batch.{Answered};
 ghost use Rattle.newsdesk_cli.specs.Lines.{LONGEST_INPUT};
 
 use crate::desk::LineDesk;

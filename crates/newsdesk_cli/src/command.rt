@@ -1,25 +1,24 @@
 //! What a command line does.
-ghost use Rattle.std.specs.Prelude.{◌≡◌, ◌+◌, [], Some, IfOk, IsTrue};
+ghost use Rattle.std.specs.Prelude.{◌≡◌, ◌+◌, [], Some, IfOk, IsTrue, length};
 ghost use Rattle.news_io.specs.Faults.{Counts};
 ghost use Rattle.news_journal.specs.Opened.{Still};
+ghost use Rattle.news_types.specs.History.{History};
+ghost use Rattle.news_types.specs.Names.{Bytes};
+ghost use Rattle.store_files.specs.Store.{Opens};
 ghost use Rattle.newsdesk_cli.specs.Words.{job_of};
-ghost use Rattle.newsdesk_cli.specs.Command.{IsStopped, IsInit, IsBatch, IsCheck, Does};
+ghost use Rattle.newsdesk_cli.specs.Command.{IsInit, IsBatch, IsCheck, IsPack, Does, Serves};
 
 use crate::batch::answer_input;
 use crate::check::check_line;
-use crate::kinds::is_empty;
-use crate::store::open_room;
-use crate::trouble::Trouble;
+use crate::pack::tell_packed;
+use crate::telling::{refuse_words, stop};
 use crate::words::{Job, read_words};
-use line_run::tell;
 use news_io::{Clock, Disk, Failed, Keeper, Link, Sink, Source};
 use news_journal::{Header, Journal};
 use news_types::Text;
 use std::alloc::Global;
+use store_files::{Trouble, is_empty, open_room};
 use uuid::Uuid;
-
-/// The line before status 2.
-const USAGE: &[u8] = b"{\"status\":2}\n";
 
 /// Does what the words ask for, and gives the status and the two disks back, the log's and the side's. The links are not
 /// used yet.
@@ -35,11 +34,13 @@ pub fn run<S: Source, O: Sink, D: Disk, C: Clock, L: Link>(
     links: &mut Vec<L>,
 ) -> (u8, D, D)
     ensures does { Does D.disk C.clock S.source O.sink log result.1 side result.2 input.old input.new output.old output.new clock.old clock.new result.0 (job_of words.now) }
+    // Files that open to a list are never told to be another store's or damaged, and a failed disk is told only where one has failed.
+    ensures serves { D.disk.tells log → D.disk.tells side → (store : Bytes) (h : History) → length store ≡ 16 → Opens (D.disk.seen log) (D.disk.seen side) store h
+        → Serves (D.disk.faults log + D.disk.faults side) (D.disk.faults result.1 + D.disk.faults result.2) (job_of words.now) result.0 }
     ensures links { links.new ≡ links.old }
 {
     let Some(job) = read_words(words) else {
-        tell(output, USAGE);
-        return (2, log, side);
+        return (refuse_words(output), log, side);
     };
     do_job(alloc, job, input, output, log, side, clock)
 }
@@ -61,15 +62,8 @@ fn do_job<S: Source, O: Sink, D: Disk, C: Clock>(
         Job::Init(store) => init(output, log, side, store),
         Job::Batch => batch(alloc, input, output, log, side, clock),
         Job::Check => check(alloc, output, log, side),
+        Job::Pack => pack(alloc, output, log, side),
     }
-}
-
-/// Says why there is nothing to do.
-fn stop<O: Sink>(output: &mut O, trouble: Trouble) -> u8
-    ensures { IsStopped O.sink trouble output.old output.new result }
-{
-    tell(output, trouble.line().as_slice());
-    trouble.status()
 }
 
 /// Whether both files are empty.
@@ -138,5 +132,24 @@ fn check<O: Sink, D: Disk>(alloc: Global, output: &mut O, log: D, side: D) -> (u
             (status, log, side)
         }
         Err((log, side, trouble)) => (stop(output, trouble), log, side),
+    }
+}
+
+/// Opens the log and its side, and packs them.
+#[tactic(none)]
+fn pack<O: Sink, D: Disk>(alloc: Global, output: &mut O, log: D, side: D) -> (u8, D, D)
+    ensures { IsPack D.disk O.sink log result.1 side result.2 output.old output.new result.0 }
+{
+    let room = match open_room(alloc, log, side) {
+        Ok(room) => room,
+        Err((log, side, trouble)) => return (stop(output, trouble), log, side),
+    };
+    match room.into_keeper().pack(alloc) {
+        Ok((pair, count)) => {
+            let status = tell_packed(output, count);
+            let (log, side) = pair.into_disks();
+            (status, log, side)
+        }
+        Err((log, side, fault)) => (stop(output, Trouble::from(fault)), log, side),
     }
 }

@@ -7,6 +7,7 @@ pub fn help_text() -> &'static str {
 newsdesk init STORE UUID   make an empty log in the file STORE, for the store of this identifier
 newsdesk batch STORE       answer the lines of standard input, one JSON object a line, and keep what they add
 newsdesk check STORE       open the log, and say how many entries and publications it holds
+newsdesk pack STORE        pack what only the log holds into its side, empty the log, and say how many entries there are
 newsdesk --help            say this
 newsdesk --version         say the version
 
@@ -17,7 +18,7 @@ or a question, as
   {\"ask\":\"feed\",\"subscriber\":\"alpha\",\"after\":0}
 
 Exit status: 0 all was answered, 2 usage, 3 wrong store, 4 read fault, 5 write fault, 6 store fault,
-7 damaged log or side, 8 log full, 9 out of memory, 12 input too long. A status other than 0 and 5 is written
+7 damaged log or side, 8 log or side full, 9 out of memory, 12 input too long. A status other than 0 and 5 is written
 to the output too, as {\"status\":7} with the place of the damage.
 "
 }

@@ -6,11 +6,10 @@ mod check;
 mod command;
 mod desk;
 mod help;
-mod kinds;
+mod pack;
 mod scope;
-mod store;
+mod telling;
 mod texts;
-mod trouble;
 mod words;
 
 pub use command::run;

@@ -18,6 +18,8 @@ pub(crate) enum Job {
     Batch,
     /// To open the log, and tell what it holds.
     Check,
+    /// To let the side take what only the log has, and empty the log.
+    Pack,
 }
 
 /// What these words ask for, if they are a command.
@@ -38,6 +40,7 @@ fn short_job(verb: &str) -> Option<Job>
     match verb {
         "batch" => Some(Job::Batch),
         "check" => Some(Job::Check),
+        "pack" => Some(Job::Pack),
         _ => None,
     }
 }

@@ -1,7 +1,7 @@
 //! Commands over a list in two files, over a side that is damaged or another store's, and where the side fails.
 use super::{
-    BATCH, CHECK, CLOSED, FLASH, FLASH_AGAIN, HEADER, INIT, Left, clock_of, done_beside, joined,
-    lines_of, number,
+    BATCH, CHECK, CLOSED, FLASH, FLASH_AGAIN, HEADER, INIT, Left, TWO, clock_of, done_beside,
+    joined, lines_of, number,
 };
 use news_io::{MemoryDisk, MemorySink, MemorySource};
 use news_types::Memory;
@@ -19,6 +19,10 @@ const SIDE: &[u8] =
 /// A third request.
 const BETA: &str =
     r#"{"by":"admin","number":3,"do":"add_subscriber","subscriber":"beta","format":"7901","products":["all"]}"#;
+
+const PACK: &[&str] = &["pack", "s"];
+
+const PACKED: &str = r#"{"answer":"packed","entries":2}"#;
 
 const TWO_ENTRIES: &str = r#"{"answer":"check","entries":2,"moment":1000,"publications":1}"#;
 
@@ -157,5 +161,26 @@ fn a_side_that_fails(rt: HostRuntime) -> Result<(), Fail> {
         let left = done_over(alloc, words, &[FLASH], log, side)?;
         assert!(rt; left.status == 6 && left.output.as_bytes() == status.as_slice());
     }
+    Ok(())
+}
+
+/// The side takes both entries of the log, in 185 bytes, and the log is emptied; what both hold stays the same.
+#[test]
+fn a_log_is_packed(rt: HostRuntime) -> Result<(), Fail> {
+    let alloc = rt.alloc();
+    let two = joined(alloc, TWO)?;
+    let log = MemoryDisk::holding(alloc, &two)?;
+    let left = done_over(alloc, PACK, &[], log, MemoryDisk::new(alloc))?;
+    let packed = lines_of(alloc, &[PACKED])?;
+    assert!(rt; left.status == 0 && left.output.as_bytes() == packed.as_slice());
+    assert!(rt; left.side.as_bytes().len() == 185 && left.side.as_bytes() == SIDE);
+    let log = left.log.as_bytes();
+    // The entries that the side has, and no record behind the header.
+    assert!(rt; log.get(10..16) == Some(&[0, 0, 0, 0, 0, 2][..]) && log.starts_with(LOG));
+    let checked: (u8, &str, &[u8], &[u8]) = (0, TWO_ENTRIES, log, SIDE);
+    assert!(rt; is_left_of(alloc, CHECK, &[], (log, SIDE), checked)?);
+    // There is nothing more to pack.
+    let again: (u8, &str, &[u8], &[u8]) = (0, PACKED, log, SIDE);
+    assert!(rt; is_left_of(alloc, PACK, &[], (log, SIDE), again)?);
     Ok(())
 }

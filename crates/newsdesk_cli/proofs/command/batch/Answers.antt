@@ -1,6 +1,7 @@
-use Rattle.std.proofs.Common.{◌∙◌, inl, inr, ap, refl}
+use Rattle.std.proofs.Common.{◌∙◌, inl, inr, true, ap, refl}
 use Rattle.news_pair.specs.Stands.{log_disk, side_disk}
 use Rattle.newsdesk_cli.proofs.Commands.{some_book, rose_along}
+use Rattle.newsdesk_cli.proofs.FilesLeft.{files_left}
 use Rattle.newsdesk_cli.proofs.command.batch.Goals as goal
 
 pub answer_input-status-requires : goal.answer_input-status-requires
@@ -21,6 +22,10 @@ returns-in-Ok g c =
       same = same;
       same_side = same_side;
       answered = λ told only. done.answered (record { store = c.in-Ok.ensures.opened.store; told = told; list = c.in-Ok.ensures.opened.history }) 65 (c.in-Ok.ensures.opened.holds told only);
+      files = λ told told'.
+          let opened = c.in-Ok.ensures.opened in
+          let b = record { store = opened.store; told = true; list = opened.history } in
+          files_left d g.C.Clock.clock g.S.Source.source g.O.Sink.sink c.args.log c.args.side c.in-Ok.room c.answer_input-status.new.room _ _ _ _ _ _ c.answer_input-status.result opened told told' (done.answered b 65 (opened.holds true (λ is. (told, told'))));
       complete = λ given few reads writes disks. done.complete given few reads writes (λ rose. disks (rose_along d c.args.log c.args.side c.into_disks-log.result.0 c.into_disks-log.result.1 c.in-Ok.room.keeper c.answer_input-status.new.room.keeper c.in-Ok.ensures.opened.calm same same_side rose));
     })
 

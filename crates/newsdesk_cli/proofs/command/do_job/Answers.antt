@@ -9,3 +9,6 @@ returns-in-Batch g c = rw c.in-Batch.is c.batch.ensures
 
 pub returns-in-Check : goal.returns-in-Check
 returns-in-Check g c = rw c.in-Check.is (record { input_same = refl; clock_same = refl }, c.check.ensures)
+
+pub returns-in-Pack : goal.returns-in-Pack
+returns-in-Pack g c = rw c.in-Pack.is (record { input_same = refl; clock_same = refl }, c.pack.ensures)

@@ -6,7 +6,7 @@ use Rattle.news_journal.specs.Created.{IsInTheMaking}
 use Rattle.news_journal.specs.Log.{header_bytes}
 use Rattle.news_journal.specs.declared.header.Header.TheVariants as header
 use Rattle.newsdesk_cli.proofs.Commands.{no_bytes, still_leaves, made_leaves, bare_leaves, made_durable}
-use Rattle.newsdesk_cli.proofs.Counts.{rose_left}
+use Rattle.store_files.proofs.Counts.{rose_left}
 use Rattle.newsdesk_cli.proofs.command.init.Goals as goal
 
 pub returns-in-Ok-false : goal.returns-in-Ok-false

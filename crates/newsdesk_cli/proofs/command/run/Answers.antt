@@ -1,14 +1,26 @@
 use Rattle.std.proofs.Common.{◌≡◌, ◌∙◌, sym, refl, None, Some}
 use Rattle.newsdesk_cli.specs.Words.{job_of}
+use Rattle.newsdesk_cli.specs.Command.{Serves}
+use Rattle.newsdesk_cli.proofs.Serving.{serves}
 use Rattle.newsdesk_cli.proofs.command.run.Goals as goal
 
 pub returns-in_default-clause-does : goal.returns-in_default-clause-does
 returns-in_default-clause-does g c =
     let none : job_of c.args.words.now ≡ None = sym c.read_words.ensures ∙ c.in_default.is in
-    rw none (record { input_same = refl; clock_same = refl }, record { status_is = refl; same = refl; same_side = refl; line = c.tell.ensures })
+    rw none (record { input_same = refl; clock_same = refl }, record { same = refl; same_side = refl; refused = c.refuse_words.ensures })
 
 pub returns-in_default-clause-links : goal.returns-in_default-clause-links
 returns-in_default-clause-links g c = refl
+
+pub returns-in_default-clause-serves : goal.returns-in_default-clause-serves
+returns-in_default-clause-serves g c told told' store h long opens =
+    let none : job_of c.args.words.now ≡ None = sym c.read_words.ensures ∙ c.in_default.is in
+    rw none tt
+
+pub returns-clause-serves : goal.returns-clause-serves
+returns-clause-serves g c told told' store h long opens =
+    let some : job_of c.args.words.now ≡ Some c.in-Some.job = sym c.read_words.ensures ∙ c.in-Some.is in
+    rw some (serves g.D.Disk.disk g.C.Clock.clock g.S.Source.source g.O.Sink.sink _ _ _ _ _ _ _ _ _ _ _ told told' store h long opens (Some c.in-Some.job) c.do_job.ensures)
 
 pub returns-clause-does : goal.returns-clause-does
 returns-clause-does g c =

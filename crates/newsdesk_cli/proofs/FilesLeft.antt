@@ -1,0 +1,214 @@
+-- What a run over lines leaves in the two files of a store.
+use Rattle.std.proofs.Common.{◌≡◌, ◌⊎◌, inl, inr, ℕ, ◌+◌, ◌≤◌, Bool, true, false, List, [], ◌∷◌, ◌++◌, take, Option, Some, None, refl, sym, ◌∙◌, ap, subst, arith}
+use Rattle.std.specs.Prelude.{Result, Ok, Err}
+use Rattle.news_types.specs.Books.{Book}
+use Rattle.news_types.specs.Names.{Bytes}
+use Rattle.news_types.specs.History.{History}
+use Rattle.news_types.specs.Doubt.{payloads}
+use Rattle.news_types.specs.declared.entry.Entry.{Entry}
+use Rattle.entry_codec.specs.Spelling.{entry_bytes}
+use Rattle.news_io.specs.Clock.{ClockMeaning}
+use Rattle.news_io.specs.Disk.{DiskMeaning}
+use Rattle.news_io.specs.Faults.{Rose}
+use Rattle.news_io.specs.Left.{IsLeft, Between}
+use Rattle.news_io.specs.Sink.{SinkMeaning}
+use Rattle.news_io.specs.Source.{SourceMeaning}
+use Rattle.input_lines.specs.Lines.{Line}
+use Rattle.line_run.specs.Life.{Meaning, Life, Kept}
+use Rattle.line_run.specs.Run.{Ran, IsEnd, Ends}
+use Rattle.line_run.specs.Status.{IsRun, status_of}
+use Rattle.line_run.specs.Turns.{NextIs, AnsweredAll, AnsweredSome, after}
+use Rattle.line_run.specs.declared.ending.Ending.{Ending}
+use Rattle.line_run.specs.declared.ending.Ending.TheVariants as end
+use Rattle.news_pair.specs.Keeper.{pair_of}
+use Rattle.news_pair.specs.Pair.{PairOpens, PairFinds}
+use Rattle.news_pair.specs.Stands.{log_disk, side_disk}
+use Rattle.news_pair.specs.declared.pair.Pair.{Pair}
+use Rattle.news_pair.specs.Law.{finds_one}
+use Rattle.news_pair.proofs.Finding.{pair_found}
+use Rattle.news_room.specs.Log.{IsStored}
+use Rattle.news_room.specs.Log as room
+use Rattle.news_room.specs.Stands.{Tells, Stands, in_doubt}
+use Rattle.news_room.specs.declared.room.Room.{Room}
+use Rattle.news_room.proofs.Lists.{same_list}
+use Rattle.store_files.specs.Files.{Files, OpenTo, OpenAlike, MayLeave, MayBe, LeftSince}
+use Rattle.store_files.specs.Store.{IsOpenRoom}
+use Rattle.store_files.proofs.Holding.{calls_shut, left_now}
+use Rattle.newsdesk_cli.specs.Batch.{IsDesk, Answered}
+use Rattle.newsdesk_cli.specs.Desk.{Shelf, StandsAt, book, moment_of}
+use Rattle.newsdesk_cli.specs.FilesLeft.{NoneInDoubt, FilesLeft}
+use Rattle.newsdesk_cli.specs.Life.{life}
+use Rattle.newsdesk_cli.specs.declared.desk.LineDesk.{LineDesk}
+
+-- ---- an entry is in doubt only where the log ended the run
+
+module _ {T C A O X : Type 0} (M : Meaning T X) (L : Life T C A) (old new : A) (none : (e : T) → L.doubts old e → ⊥) where
+  next_calm : (h : List T) (later : List X) (why : Ending) (part : List T) (said took : List ℕ) (g : List T) → (why ≡ end.Store → ⊥) → NextIs M h later why part said took (λ e. (part ++ h ≡ g) × L.doubts old e) (L.doubts new) → (e : T) → L.doubts new e → ⊥
+  next_calm h [] why part said took g other next e d = none e (next.calm e d).1
+  next_calm h (line ∷ later) why part said took g other next e d = elim (next.1.doubt e d) [ inl was ↦ none e was.1 | inr tried ↦ other tried.0 ]
+
+  module _ (sink : SinkMeaning O) (decided all : List ℕ → List X) (most : ℕ) (o o' : O) (h : List T) where
+    all_calm : (lines : List X) → AnsweredAll M L sink old new o o' h lines → (e : T) → L.doubts new e → ⊥
+    all_calm lines a e d = none e (a.calm e d).1
+
+    some_calm : (lines : List X) (why : Ending) → (why ≡ end.Store → ⊥) → AnsweredSome M L sink old new o o' h lines why → (e : T) → L.doubts new e → ⊥
+    some_calm lines why other a e d = next_calm _ a.later why a.part a.said a.took h other a.next e d
+
+    end_calm : (read more : List ℕ) (r : Result (Unit {0}) Ending) → (r ≡ Err end.Store → ⊥) → IsEnd M L sink decided all most old new o o' h read more r → (e : T) → L.doubts new e → ⊥
+    end_calm read more (Ok u) other did e d = all_calm (all read) did.2 e d
+    end_calm read more (Err end.Read) other did e d = all_calm (decided read) did.1 e d
+    end_calm read more (Err end.TooLong) other did e d = all_calm (decided (take most read)) did.1 e d
+    end_calm read more (Err end.Write) other did e d = some_calm (all (read ++ more)) end.Write (λ is. cc is) did e d
+    end_calm read more (Err end.Store) other did e d = absurd (other refl)
+    end_calm read more (Err end.Full) other did e d = some_calm (all (read ++ more)) end.Full (λ is. cc is) did e d
+    end_calm read more (Err end.Memory) other did e d = some_calm (all (read ++ more)) end.Memory (λ is. cc is) did e d
+
+-- ---- the list behind a run
+
+module _ {T C A O X : Type 0} (M : Meaning T X) (L : Life T C A) (sink : SinkMeaning O) (decided all : List ℕ → List X) (most : ℕ) (old new : A) (o o' : O) (h : List T) (read more : List ℕ) where
+  end_kept : (r : Result (Unit {0}) Ending) → IsEnd M L sink decided all most old new o o' h read more r → (g : List T) × Kept L old new h g
+  end_kept (Ok u) did = (after M h did.2.turns, did.2.kept)
+  end_kept (Err end.Read) did = (after M h did.1.turns, did.1.kept)
+  end_kept (Err end.TooLong) did = (after M h did.1.turns, did.1.kept)
+  end_kept (Err end.Write) did = (did.part ++ after M h did.turns, did.kept)
+  end_kept (Err end.Store) did = (did.part ++ after M h did.turns, did.kept)
+  end_kept (Err end.Full) did = (did.part ++ after M h did.turns, did.kept)
+  end_kept (Err end.Memory) did = (did.part ++ after M h did.turns, did.kept)
+
+-- ---- from lists that were found to bytes
+
+module _ {D : Type 0} (disk : DiskMeaning D) (p : Pair D) (store : Bytes) (label : p.store ≡ store) where
+  -- the list that was found in these files
+  opens_found : (files : Files) (found : Option (List Bytes)) → PairFinds p.store files.0 files.1 found → (l : History) → room.Opens found l → OpenTo store files l
+  opens_found files found finds l is = record {
+    pair = subst (λ (s : Bytes). PairOpens s files.0 files.1 (payloads entry_bytes l)) label (subst (PairFinds p.store files.0 files.1) is.0 finds);
+    kept = is.1;
+  }
+
+  between_found : (files : Files) (found : Option (List Bytes)) → PairFinds p.store files.0 files.1 found → (h g : History) (P Q P' Q' : Entry → Type 0) → ((e : Entry) → P e → P' e) → ((e : Entry) → Q e → Q' e)
+      → Between room.Opens h g P Q found → Between (OpenTo store) h g P' Q' files
+  between_found files found finds h g P Q P' Q' first last b = record {
+    part = b.part;
+    behind = b.behind;
+    within = b.within;
+    left = elim b.left [
+      | inl same ↦ inl (opens_found files found finds b.part same)
+      | inr more ↦ inr (more.0, elim more.1 [ inl at_first ↦ inl (at_first.0, first more.0 at_first.1) | inr at_last ↦ inr (at_last.0, last more.0 at_last.1) ], opens_found files found finds (more.0 ∷ b.part) more.2)
+    ];
+  }
+
+-- ---- the run
+
+module _ {D C S O : Type 0} (disk : DiskMeaning D) (clock : ClockMeaning C) (source : SourceMeaning S) (sink : SinkMeaning O)
+    (log side : D) (r r' : Room (Pair D)) (c c' : C) (i i' : S) (o o' : O) (status : ℕ) (opened : IsOpenRoom disk log side r) (tells : disk.tells log) (tells' : disk.tells side)
+    (a : Answered (pair_of disk) clock source sink r r' c c' i i' o o' (record { store = opened.store; told = true; list = opened.history }) 65 status) where
+  abbrev store : Bytes
+  store = opened.store
+
+  abbrev h : History
+  h = opened.history
+
+  abbrev Now : LineDesk (Pair D) C → Room (Pair D)
+  Now d = d.room.now
+
+  the_list : History
+  the_list = a.crash.list
+
+  told : a.shelf.told ≡ true
+  told = ap (λ (b : Book). b.told) a.same_book
+
+  stands : Stands (pair_of disk) r' (record { store = store; told = true; list = the_list })
+  stands =
+      subst (λ (k : Room (Pair D)). Stands (pair_of disk) k (record { store = store; told = true; list = the_list })) a.after.room_is
+      (subst (λ (b : Book). Stands (pair_of disk) (Now a.new) (record { store = b.store; told = b.told; list = the_list })) a.same_book a.crash.stands.room_stands)
+
+  none_before : (e : Entry) → (life (pair_of disk) clock a.shelf).doubts a.old e → ⊥
+  none_before e d =
+      let now = subst (λ (k : Room (Pair D)). in_doubt (pair_of disk) k e) a.before.room_is d.1 in
+      let doubt = now.1 in
+      calls_shut r.keeper.log.ajar opened.quiet doubt.is_ajar
+
+  doubts_now : (e : Entry) → in_doubt (pair_of disk) r' e → (life (pair_of disk) clock a.shelf).doubts a.new e
+  doubts_now e d = (told, subst (λ (k : Room (Pair D)). in_doubt (pair_of disk) k e) (sym a.after.room_is) d)
+
+  not_store : (status ≡ 6 → ⊥) → (a.run.result ≡ Err end.Store → ⊥)
+  not_store other is = other (a.run.status_is ∙ ap status_of is)
+
+  now : (files : Files) → MayBe disk (log_disk r'.keeper) (side_disk r'.keeper) files → IsLeft (OpenTo store) the_list (in_doubt (pair_of disk) r') files
+  now files may = elim (left_now disk r'.keeper store the_list (stands.told refl) files stands.kept may) [
+    | inl same ↦ inl same
+    | inr more ↦ inr (more.0, (more.1.1.formed.0, more.1.0), more.2)
+  ]
+
+  moment_is : (d : LineDesk (Pair D) C) (k : Room (Pair D)) → Now d ≡ k → moment_of a.shelf.told ((pair_of disk).moment (Now d).keeper) ≡ disk.moment (log_disk k.keeper)
+  moment_is d k same = ap (λ (t : Bool). moment_of t ((pair_of disk).moment (Now d).keeper)) told ∙ ap (λ (x : Room (Pair D)). disk.moment (log_disk x.keeper)) same
+
+  since_opened : (files : Files) → LeftSince disk (log_disk r'.keeper) (side_disk r'.keeper) (disk.moment (log_disk r.keeper)) files → Between (OpenTo store) h the_list NoneInDoubt (in_doubt (pair_of disk) r') files
+  since_opened files left =
+      let f = pair_found r'.keeper.store files.0 files.1 in
+      let at : (pair_of disk).left_since r'.keeper (disk.moment (log_disk r.keeper)) f.0 = (files.0, left.0, (files.1, left.1, f.1)) in
+      let there = subst (λ (k : Room (Pair D)). (pair_of disk).left_since k.keeper (disk.moment (log_disk r.keeper)) f.0) (sym a.after.room_is) at in
+      let before = subst (λ (t : ℕ). (pair_of disk).left_since (Now a.new).keeper t f.0) (sym (moment_is a.old r a.before.room_is)) there in
+      between_found disk r'.keeper store (stands.told refl).label_is files f.0 f.1 h the_list
+      ((life (pair_of disk) clock a.shelf).doubts a.old) ((life (pair_of disk) clock a.shelf).doubts a.new) NoneInDoubt (in_doubt (pair_of disk) r')
+      none_before (λ e d. subst (λ (k : Room (Pair D)). in_doubt (pair_of disk) k e) a.after.room_is d.1)
+      (a.crash.each f.0 (told, before))
+
+  -- the list of the turns is that list
+  kept : (g : History) × Kept (life (pair_of disk) clock a.shelf) a.old a.new h g
+  kept = end_kept _ (life (pair_of disk) clock a.shelf) sink _ _ _ a.old a.new o a.run.mid h a.run.ran.read a.run.ran.more a.run.result a.run.ran.did
+
+  one_list : kept.0 ≡ the_list
+  one_list =
+      let mine = kept.1.list.room_stands in
+      let other = a.crash.stands.room_stands in
+      same_list kept.0 the_list mine.kept.formed other.kept.formed (sym (mine.told told).list_is ∙ (other.told told).list_is)
+
+  -- files beside which the log was left before the run
+  before_opened : (files : Files) (found : Option (List Bytes)) → PairFinds store files.0 files.1 found → (c s : List ℕ) → disk.may_leave (side_disk r.keeper) s → PairFinds store c s found
+      → disk.may_leave log c ⊎ (disk.may_leave log c ⊎ ((s : List ℕ) → disk.may_leave (side_disk r.keeper) s → OpenTo store (c, s) h))
+      → Between (OpenTo store) h the_list NoneInDoubt (in_doubt (pair_of disk) r') files ⊎ ((before : Files) × MayLeave disk log side before × OpenAlike store before files)
+  before_opened files found finds c s left was (inl may) = inr ((c, s), (may, (opened.still tells').crash s left), (found, was, finds))
+  before_opened files found finds c s left was (inr (inl may)) = inr ((c, s), (may, (opened.still tells').crash s left), (found, was, finds))
+  before_opened files found finds c s left was (inr (inr opens)) =
+      let now = opens s left in
+      let is = finds_one store c s (payloads entry_bytes h) found now.pair was in
+      inl (record {
+        part = h;
+        behind = ([], refl);
+        within = a.crash.more;
+        left = inl (record { pair = subst (PairFinds store files.0 files.1) is finds; kept = now.kept });
+      })
+
+  since_begun : (files : Files) → LeftSince disk (log_disk r'.keeper) (side_disk r'.keeper) (disk.moment log) files
+      → Between (OpenTo store) h the_list NoneInDoubt (in_doubt (pair_of disk) r') files ⊎ ((before : Files) × MayLeave disk log side before × OpenAlike store before files)
+  since_begun files left =
+      let f = pair_found r'.keeper.store files.0 files.1 in
+      let finds = subst (λ (s : Bytes). PairFinds s files.0 files.1 f.0) (stands.told refl).label_is f.1 in
+      let at : (pair_of disk).left_since r'.keeper (disk.moment log) f.0 = (files.0, left.0, (files.1, left.1, f.1)) in
+      let there = subst (λ (k : Room (Pair D)). (pair_of disk).left_since k.keeper (disk.moment log) f.0) (sym a.after.room_is) at in
+      let time = opened.crash tells tells' in
+      let early = subst (λ (n : ℕ). disk.moment log ≤ n) (sym (moment_is a.old r a.before.room_is)) time.later in
+      elim (kept.1.time.nothing_else (disk.moment log) f.0 early (told, there)) [
+        | inl was ↦
+            let old = subst (λ (k : Room (Pair D)). (pair_of disk).left_since k.keeper (disk.moment log) f.0) a.before.room_is was.1 in
+            let label = (opened.holds true (λ is. (tells, tells'))).stands.told refl in
+            before_opened files f.0 finds old.0 old.2.0 old.2.1 (subst (λ (s : Bytes). PairFinds s old.0 old.2.0 f.0) label.label_is old.2.2)
+            (elim (time.nothing_else (disk.moment log) old.0 (omega arith) old.1) [ inl first ↦ inl (disk.only_now log old.0 first) | inr gained ↦ inr gained ])
+        | inr between ↦
+            inl (between_found disk r'.keeper store (stands.told refl).label_is files f.0 f.1 h the_list
+            ((life (pair_of disk) clock a.shelf).doubts a.old) ((life (pair_of disk) clock a.shelf).doubts a.new) NoneInDoubt (in_doubt (pair_of disk) r')
+            none_before (λ e d. subst (λ (k : Room (Pair D)). in_doubt (pair_of disk) k e) a.after.room_is d.1)
+            (subst (λ (g : History). Between room.Opens h g ((life (pair_of disk) clock a.shelf).doubts a.old) ((life (pair_of disk) clock a.shelf).doubts a.new) f.0) one_list between))
+      ]
+
+  pub files_left : FilesLeft disk log side store r r' h status
+  files_left = record {
+    list = the_list;
+    more = a.crash.more;
+    stands = stands;
+    now = now;
+    sure = λ other e d. end_calm _ (life (pair_of disk) clock a.shelf) a.old a.new none_before sink _ _ _ o a.run.mid h a.run.ran.read a.run.ran.more a.run.result (not_store other) a.run.ran.did e (doubts_now e d);
+    since_opened = since_opened;
+    since_begun = since_begun;
+  }

@@ -1,0 +1,107 @@
+-- A store that holds a list is served.
+use Rattle.std.proofs.Common.{◌≡◌, ◌⊎◌, inl, inr, ℕ, ◌+◌, true, List, Option, Some, None, length, refl, sym, ◌∙◌, ap, subst, arith}
+use Rattle.std.specs.Prelude.{Result, Ok, Err}
+use Rattle.news_types.specs.Names.{Bytes}
+use Rattle.news_types.specs.History.{History}
+use Rattle.news_io.specs.Clock.{ClockMeaning}
+use Rattle.news_io.specs.Disk.{DiskMeaning}
+use Rattle.news_io.specs.Faults.{Rose}
+use Rattle.news_io.specs.Sink.{SinkMeaning}
+use Rattle.news_io.specs.Source.{SourceMeaning}
+use Rattle.line_run.specs.Run.{Ends}
+use Rattle.line_run.specs.Status as run
+use Rattle.line_run.specs.declared.ending.Ending.{Ending}
+use Rattle.line_run.specs.declared.ending.Ending.TheVariants as end
+use Rattle.news_pair.specs.Keeper.{pair_of}
+use Rattle.news_pair.specs.declared.pair.Pair.{Pair}
+use Rattle.news_pair.specs.declared.pack_fault.PackFault.{PackFault}
+use Rattle.news_pair.specs.declared.pack_fault.PackFault.TheVariants as fault
+use Rattle.news_pair.specs.PackFaults.{IsDamage, FaultCounts}
+use Rattle.news_room.specs.declared.room.Room.{Room}
+use Rattle.store_files.specs.Store.{Opens, TroubleCounts, IsNotOfBytes}
+use Rattle.store_files.specs.Trouble.{status_of, trouble_of_pack}
+use Rattle.store_files.specs.declared.trouble.Trouble.{Trouble}
+use Rattle.store_files.specs.declared.trouble.Trouble.TheVariants as trouble
+use Rattle.store_files.proofs.Serving.{served}
+use Rattle.newsdesk_cli.specs.Command.{check_line, IsServed, Serves, NotOpened, IsTold, IsChecked, IsCheck, IsPack, IsBatch, HasAnswered, Does}
+use Rattle.newsdesk_cli.specs.Packing.{packed_line}
+use Rattle.newsdesk_cli.specs.declared.words.Job.{Job}
+use Rattle.newsdesk_cli.specs.declared.words.Job.TheVariants.{Init, Batch, Check, Pack}
+use Rattle.newsdesk_cli.proofs.Commands.{rose_along}
+
+-- ---- statuses
+
+-- any other number
+others : (before now n status : ℕ) → (n ≡ 3 → ⊥) → (n ≡ 7 → ⊥) → (n ≡ 6 → Rose before now) → status ≡ n → IsServed before now status
+others before now n status own whole failed is = record { own = λ s. own (sym is ∙ s); whole = λ s. whole (sym is ∙ s); failed = λ s. failed (sym is ∙ s) }
+
+by_trouble : (t : Trouble) (before now status : ℕ) → IsNotOfBytes t → TroubleCounts before now t → status ≡ status_of t → IsServed before now status
+by_trouble trouble.WrongStore before now status outside count is = absurd outside
+by_trouble trouble.Store before now status outside count is = others before now 6 status (λ s. absurd (omega (arith, s))) (λ s. absurd (omega (arith, s))) (λ s. count) is
+by_trouble (trouble.Damaged at found) before now status outside count is = absurd outside
+by_trouble (trouble.DamagedSide at found) before now status outside count is = absurd outside
+by_trouble trouble.Full before now status outside count is = absurd outside
+by_trouble trouble.Memory before now status outside count is = others before now 9 status (λ s. absurd (omega (arith, s))) (λ s. absurd (omega (arith, s))) (λ s. absurd (omega (arith, s))) is
+
+by_pack : (why : PackFault) (before now status : ℕ) → (IsDamage why → ⊥) → FaultCounts before now why → status ≡ status_of (trouble_of_pack why) → IsServed before now status
+by_pack fault.DiskFault before now status whole counts is = others before now 6 status (λ s. absurd (omega (arith, s))) (λ s. absurd (omega (arith, s))) (λ s. counts.fault tt) is
+by_pack (fault.Full size count) before now status whole counts is = others before now 8 status (λ s. absurd (omega (arith, s))) (λ s. absurd (omega (arith, s))) (λ s. absurd (omega (arith, s))) is
+by_pack (fault.Damaged at found) before now status whole counts is = absurd (whole tt)
+by_pack fault.Memory before now status whole counts is = others before now 9 status (λ s. absurd (omega (arith, s))) (λ s. absurd (omega (arith, s))) (λ s. absurd (omega (arith, s))) is
+
+by_run : (r : Result (Unit {0}) Ending) (before now status : ℕ) → (r ≡ Err end.Store → Rose before now) → status ≡ run.status_of r → IsServed before now status
+by_run (Ok u) before now status rose is = others before now 0 status (λ s. absurd (omega (arith, s))) (λ s. absurd (omega (arith, s))) (λ s. absurd (omega (arith, s))) is
+by_run (Err end.Read) before now status rose is = others before now 4 status (λ s. absurd (omega (arith, s))) (λ s. absurd (omega (arith, s))) (λ s. absurd (omega (arith, s))) is
+by_run (Err end.Write) before now status rose is = others before now 5 status (λ s. absurd (omega (arith, s))) (λ s. absurd (omega (arith, s))) (λ s. absurd (omega (arith, s))) is
+by_run (Err end.Store) before now status rose is = others before now 6 status (λ s. absurd (omega (arith, s))) (λ s. absurd (omega (arith, s))) (λ s. rose refl) is
+by_run (Err end.Full) before now status rose is = others before now 8 status (λ s. absurd (omega (arith, s))) (λ s. absurd (omega (arith, s))) (λ s. absurd (omega (arith, s))) is
+by_run (Err end.Memory) before now status rose is = others before now 9 status (λ s. absurd (omega (arith, s))) (λ s. absurd (omega (arith, s))) (λ s. absurd (omega (arith, s))) is
+by_run (Err end.TooLong) before now status rose is = others before now 12 status (λ s. absurd (omega (arith, s))) (λ s. absurd (omega (arith, s))) (λ s. absurd (omega (arith, s))) is
+
+-- ---- commands
+
+module _ {O : Type 0} (sink : SinkMeaning O) (o o' : O) (before now status : ℕ) where
+  told_served : (line : List ℕ) → IsTold sink line o o' status → IsServed before now status
+  told_served line (inl done) = others before now 0 status (λ s. absurd (omega (arith, s))) (λ s. absurd (omega (arith, s))) (λ s. absurd (omega (arith, s))) done.0
+  told_served line (inr cut) = others before now 5 status (λ s. absurd (omega (arith, s))) (λ s. absurd (omega (arith, s))) (λ s. absurd (omega (arith, s))) cut.0
+
+  check_served : (h : History) → IsChecked sink h o o' status → IsServed before now status
+  check_served h (inl told) = told_served (check_line h) told
+  check_served h (inr stopped) = others before now 9 status (λ s. absurd (omega (arith, s))) (λ s. absurd (omega (arith, s))) (λ s. absurd (omega (arith, s))) stopped.status_is
+
+module _ {D O S C : Type 0} (disk : DiskMeaning D) (clock : ClockMeaning C) (source : SourceMeaning S) (sink : SinkMeaning O)
+    (log log' side side' : D) (i i' : S) (o o' : O) (c c' : C) (status : ℕ)
+    (told : disk.tells log) (told' : disk.tells side) (store : Bytes) (h : History) (long : length store ≡ 16) (opens : Opens (disk.seen log) (disk.seen side) store h) where
+  abbrev Before : ℕ
+  Before = disk.faults log + disk.faults side
+
+  abbrev Now : ℕ
+  Now = disk.faults log' + disk.faults side'
+
+  not_opened : NotOpened disk sink log log' side side' o o' status → IsServed Before Now status
+  not_opened n = by_trouble n.why Before Now status (served (disk.seen log) (disk.seen side) store h long opens n.why (n.refused.cause told told')) n.refused.count n.stopped.status_is
+
+  answered : HasAnswered disk clock source sink log log' side side' i i' o o' c c' status → IsServed Before Now status
+  answered a =
+      let r = a.answered true (λ is. (told, told')) in
+      let faults = λ (k : Room (Pair D)). (pair_of disk).faults k.keeper in
+      by_run r.run.result Before Now status
+      (λ is.
+          let ends = subst (Ends (source.faults i) (source.faults i') (faults r.old.room.now) (faults r.new.room.now) (sink.faults o) (sink.faults r.run.mid)) is r.run.ends in
+          let rose = subst (λ (k : Room (Pair D)). Rose (faults a.room) (faults k)) r.after.room_is (subst (λ (k : Room (Pair D)). Rose (faults k) (faults r.new.room.now)) r.before.room_is ends.1.0) in
+          rose_along disk log side log' side' a.room.keeper a.after.keeper a.opened.calm a.same a.same_side rose)
+      r.run.status_is
+
+  pub serves : (job : Option Job) → Does disk clock source sink log log' side side' i i' o o' c c' status job → Serves Before Now job status
+  serves None did = tt
+  serves (Some (Init made)) did = tt
+  serves (Some Batch) (inl not) = not_opened not.why
+  serves (Some Batch) (inr done) = answered done
+  serves (Some Check) did = elim did.1 [ inl not ↦ not_opened not | inr done ↦ check_served sink o o' Before Now status done.opened.history done.told ]
+  serves (Some Pack) did = elim did.1 [
+    | inl not ↦ not_opened not
+    | inr either ↦ elim either [
+      | inl done ↦ told_served sink o o' Before Now status (packed_line done.count) done.told
+      | inr failed ↦ by_pack failed.why Before Now status (failed.packs_not told told').whole failed.counts failed.stopped.status_is
+    ]
+  ]

@@ -1,0 +1,44 @@
+//! What a command tells at its end, with its status.
+ghost use Rattle.std.specs.Prelude.{◌≡◌, OnOk, OnErr};
+ghost use Rattle.newsdesk_cli.specs.Command.{IsWritten, IsCut, IsTold, IsStopped, IsRefusedUse};
+
+use line_run::tell;
+use news_io::{Failed, Sink, write_through};
+use store_files::Trouble;
+
+/// The line before status 2.
+const USAGE: &[u8] = b"{\"status\":2}\n";
+
+/// Writes bytes, and passes them on.
+fn write_out<O: Sink>(output: &mut O, bytes: &[u8]) -> Result<(), Failed>
+    ensures written { OnOk result (IsWritten O.sink output.old output.new bytes.now) }
+    ensures cut { OnErr result (IsCut O.sink output.old output.new bytes.now) }
+{
+    write_through(output, bytes)
+}
+
+/// Tells an answer, and gives the status.
+pub(crate) fn tell_answer<O: Sink>(output: &mut O, line: &[u8]) -> u8
+    ensures { IsTold O.sink line.now output.old output.new result }
+{
+    match write_out(output, line) {
+        Ok(()) => 0,
+        Err(_) => 5,
+    }
+}
+
+/// Says why there is nothing to do, and gives the status.
+pub(crate) fn stop<O: Sink>(output: &mut O, trouble: Trouble) -> u8
+    ensures { IsStopped O.sink trouble output.old output.new result }
+{
+    tell(output, trouble.line().as_slice());
+    trouble.status()
+}
+
+/// Says that the words are no command, and gives the status.
+pub(crate) fn refuse_words<O: Sink>(output: &mut O) -> u8
+    ensures { IsRefusedUse O.sink output.old output.new result }
+{
+    tell(output, USAGE);
+    2
+}

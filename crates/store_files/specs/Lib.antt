@@ -1,0 +1,5 @@
+pub mod Trouble
+pub mod Kinds
+pub mod Holds
+pub mod Store
+pub mod Files
