@@ -1,0 +1,4 @@
+pub mod Lines
+pub mod Receipts
+pub mod Replying
+pub mod Stories
