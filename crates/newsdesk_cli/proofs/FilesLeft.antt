@@ -13,7 +13,7 @@ use Rattle.news_io.specs.Faults.{Rose}
 use Rattle.news_io.specs.Left.{IsLeft, Between}
 use Rattle.news_io.specs.Sink.{SinkMeaning}
 use Rattle.news_io.specs.Source.{SourceMeaning}
-use Rattle.input_lines.specs.Lines.{Line}
+use Rattle.input_lines.specs.Lines.{ended, lines}
 use Rattle.line_run.specs.Life.{Meaning, Life, Kept}
 use Rattle.line_run.specs.Run.{Ran, IsEnd, Ends}
 use Rattle.line_run.specs.Status.{IsRun, status_of}
@@ -38,30 +38,32 @@ use Rattle.newsdesk_cli.specs.Batch.{IsDesk, Answered}
 use Rattle.newsdesk_cli.specs.Desk.{Shelf, StandsAt, book, moment_of}
 use Rattle.newsdesk_cli.specs.FilesLeft.{NoneInDoubt, FilesLeft}
 use Rattle.newsdesk_cli.specs.Life.{life}
+use Rattle.newsdesk_cli.specs.Lines.{LONGEST_LINE, LONGEST_INPUT, of_line}
 use Rattle.newsdesk_cli.specs.declared.desk.LineDesk.{LineDesk}
 
 -- ---- an entry is in doubt only where the log ended the run
 
-module _ {T C A O X : Type 0} (M : Meaning T X) (L : Life T C A) (old new : A) (none : (e : T) → L.doubts old e → ⊥) where
+module _ {T C A X : Type 0} (M : Meaning T X) (L : Life T C A) (old new : A) (none : (e : T) → L.doubts old e → ⊥) where
   next_calm : (h : List T) (later : List X) (why : Ending) (part : List T) (said took : List ℕ) (g : List T) → (why ≡ end.Store → ⊥) → NextIs M h later why part said took (λ e. (part ++ h ≡ g) × L.doubts old e) (L.doubts new) → (e : T) → L.doubts new e → ⊥
   next_calm h [] why part said took g other next e d = none e (next.calm e d).1
   next_calm h (line ∷ later) why part said took g other next e d = elim (next.1.doubt e d) [ inl was ↦ none e was.1 | inr tried ↦ other tried.0 ]
 
-  module _ (sink : SinkMeaning O) (decided all : List ℕ → List X) (most : ℕ) (o o' : O) (h : List T) where
-    all_calm : (lines : List X) → AnsweredAll M L sink old new o o' h lines → (e : T) → L.doubts new e → ⊥
-    all_calm lines a e d = none e (a.calm e d).1
+module _ {T C A O X : Type 0} (M : Meaning T X) (L : Life T C A) (old new : A) (none : (e : T) → L.doubts old e → ⊥)
+    (sink : SinkMeaning O) (decided all : List ℕ → List X) (most : ℕ) (o o' : O) (h : List T) where
+  all_calm : (lines : List X) → AnsweredAll M L sink old new o o' h lines → (e : T) → L.doubts new e → ⊥
+  all_calm lines a e d = none e (a.calm e d).1
 
-    some_calm : (lines : List X) (why : Ending) → (why ≡ end.Store → ⊥) → AnsweredSome M L sink old new o o' h lines why → (e : T) → L.doubts new e → ⊥
-    some_calm lines why other a e d = next_calm _ a.later why a.part a.said a.took h other a.next e d
+  some_calm : (lines : List X) (why : Ending) → (why ≡ end.Store → ⊥) → AnsweredSome M L sink old new o o' h lines why → (e : T) → L.doubts new e → ⊥
+  some_calm lines why other a e d = next_calm M L old new none (after M h a.turns) a.later why a.part a.said a.took h other a.next e d
 
-    end_calm : (read more : List ℕ) (r : Result (Unit {0}) Ending) → (r ≡ Err end.Store → ⊥) → IsEnd M L sink decided all most old new o o' h read more r → (e : T) → L.doubts new e → ⊥
-    end_calm read more (Ok u) other did e d = all_calm (all read) did.2 e d
-    end_calm read more (Err end.Read) other did e d = all_calm (decided read) did.1 e d
-    end_calm read more (Err end.TooLong) other did e d = all_calm (decided (take most read)) did.1 e d
-    end_calm read more (Err end.Write) other did e d = some_calm (all (read ++ more)) end.Write (λ is. cc is) did e d
-    end_calm read more (Err end.Store) other did e d = absurd (other refl)
-    end_calm read more (Err end.Full) other did e d = some_calm (all (read ++ more)) end.Full (λ is. cc is) did e d
-    end_calm read more (Err end.Memory) other did e d = some_calm (all (read ++ more)) end.Memory (λ is. cc is) did e d
+  end_calm : (read more : List ℕ) (r : Result (Unit {0}) Ending) → (r ≡ Err end.Store → ⊥) → IsEnd M L sink decided all most old new o o' h read more r → (e : T) → L.doubts new e → ⊥
+  end_calm read more (Ok u) other did e d = all_calm (all read) did.2 e d
+  end_calm read more (Err end.Read) other did e d = all_calm (decided read) did.1 e d
+  end_calm read more (Err end.TooLong) other did e d = all_calm (decided (take most read)) did.1 e d
+  end_calm read more (Err end.Write) other did e d = some_calm (all (read ++ more)) end.Write (λ is. absurd (cc is)) did e d
+  end_calm read more (Err end.Store) other did e d = absurd (other refl)
+  end_calm read more (Err end.Full) other did e d = some_calm (all (read ++ more)) end.Full (λ is. absurd (cc is)) did e d
+  end_calm read more (Err end.Memory) other did e d = some_calm (all (read ++ more)) end.Memory (λ is. absurd (cc is)) did e d
 
 -- ---- the list behind a run
 
@@ -111,7 +113,7 @@ module _ {D C S O : Type 0} (disk : DiskMeaning D) (clock : ClockMeaning C) (sou
   abbrev Now : LineDesk (Pair D) C → Room (Pair D)
   Now d = d.room.now
 
-  the_list : History
+  abbrev the_list : History
   the_list = a.crash.list
 
   told : a.shelf.told ≡ true
@@ -156,7 +158,7 @@ module _ {D C S O : Type 0} (disk : DiskMeaning D) (clock : ClockMeaning C) (sou
 
   -- the list of the turns is that list
   kept : (g : History) × Kept (life (pair_of disk) clock a.shelf) a.old a.new h g
-  kept = end_kept _ (life (pair_of disk) clock a.shelf) sink _ _ _ a.old a.new o a.run.mid h a.run.ran.read a.run.ran.more a.run.result a.run.ran.did
+  kept = end_kept (of_line 65) (life (pair_of disk) clock a.shelf) sink (ended LONGEST_LINE) (lines LONGEST_LINE) LONGEST_INPUT a.old a.new o a.run.mid h a.run.ran.read a.run.ran.more a.run.result a.run.ran.did
 
   one_list : kept.0 ≡ the_list
   one_list =
@@ -208,7 +210,7 @@ module _ {D C S O : Type 0} (disk : DiskMeaning D) (clock : ClockMeaning C) (sou
     more = a.crash.more;
     stands = stands;
     now = now;
-    sure = λ other e d. end_calm _ (life (pair_of disk) clock a.shelf) a.old a.new none_before sink _ _ _ o a.run.mid h a.run.ran.read a.run.ran.more a.run.result (not_store other) a.run.ran.did e (doubts_now e d);
+    sure = λ other e d. end_calm (of_line 65) (life (pair_of disk) clock a.shelf) a.old a.new none_before sink (ended LONGEST_LINE) (lines LONGEST_LINE) LONGEST_INPUT o a.run.mid h a.run.ran.read a.run.ran.more a.run.result (not_store other) a.run.ran.did e (doubts_now e d);
     since_opened = since_opened;
     since_begun = since_begun;
   }

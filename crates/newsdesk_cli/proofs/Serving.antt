@@ -87,9 +87,9 @@ module _ {D O S C : Type 0} (disk : DiskMeaning D) (clock : ClockMeaning C) (sou
       let faults = λ (k : Room (Pair D)). (pair_of disk).faults k.keeper in
       by_run r.run.result Before Now status
       (λ is.
-          let ends = subst (Ends (source.faults i) (source.faults i') (faults r.old.room.now) (faults r.new.room.now) (sink.faults o) (sink.faults r.run.mid)) is r.run.ends in
-          let rose = subst (λ (k : Room (Pair D)). Rose (faults a.room) (faults k)) r.after.room_is (subst (λ (k : Room (Pair D)). Rose (faults k) (faults r.new.room.now)) r.before.room_is ends.1.0) in
-          rose_along disk log side log' side' a.room.keeper a.after.keeper a.opened.calm a.same a.same_side rose)
+      let ends = subst (Ends (source.faults i) (source.faults i') (faults r.old.room.now) (faults r.new.room.now) (sink.faults o) (sink.faults r.run.mid)) is r.run.ends in
+      let rose = subst (λ (k : Room (Pair D)). Rose (faults a.room) (faults k)) r.after.room_is (subst (λ (k : Room (Pair D)). Rose (faults k) (faults r.new.room.now)) r.before.room_is ends.1.0) in
+      rose_along disk log side log' side' a.room.keeper a.after.keeper a.opened.calm a.same a.same_side rose)
       r.run.status_is
 
   pub serves : (job : Option Job) → Does disk clock source sink log log' side side' i i' o o' c c' status job → Serves Before Now job status

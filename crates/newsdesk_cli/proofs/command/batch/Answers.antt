@@ -24,8 +24,7 @@ returns-in-Ok g c =
       answered = λ told only. done.answered (record { store = c.in-Ok.ensures.opened.store; told = told; list = c.in-Ok.ensures.opened.history }) 65 (c.in-Ok.ensures.opened.holds told only);
       files = λ told told'.
           let opened = c.in-Ok.ensures.opened in
-          let b = record { store = opened.store; told = true; list = opened.history } in
-          files_left d g.C.Clock.clock g.S.Source.source g.O.Sink.sink c.args.log c.args.side c.in-Ok.room c.answer_input-status.new.room _ _ _ _ _ _ c.answer_input-status.result opened told told' (done.answered b 65 (opened.holds true (λ is. (told, told'))));
+          files_left d g.C.Clock.clock g.S.Source.source g.O.Sink.sink c.args.log c.args.side c.in-Ok.room c.answer_input-status.new.room _ _ _ _ _ _ c.answer_input-status.result opened told told' (done.answered (record { store = opened.store; told = true; list = opened.history }) 65 (opened.holds true (λ is. (told, told'))));
       complete = λ given few reads writes disks. done.complete given few reads writes (λ rose. disks (rose_along d c.args.log c.args.side c.into_disks-log.result.0 c.into_disks-log.result.1 c.in-Ok.room.keeper c.answer_input-status.new.room.keeper c.in-Ok.ensures.opened.calm same same_side rose));
     })
 
