@@ -13,7 +13,7 @@ use std::alloc::{AllocError, Global};
 const PIECE: usize = 65536;
 
 /// Reads at most so many bytes and one more.
-fn read_piece<S: Source>(input: &mut S, piece: &mut [u8], left: u64) -> Result<usize, Failed>
+pub fn read_piece<S: Source>(input: &mut S, piece: &mut [u8], left: u64) -> Result<usize, Failed>
     requires left { left < 2 ^ 63 }
     ensures within { IfOk result (λ n. (n ≤ length piece.old) × (n ≤ left + 1)) }
     ensures bytes { S.source.tells input.old → IfOk result (λ n. S.source.ahead input.old ≡ take n piece.new ++ S.source.ahead input.new) }
@@ -71,7 +71,8 @@ fn answer_ended<S: Source, O: Sink, A: Answering>(
     }
 }
 
-fn empty_piece(alloc: Global) -> Result<Vec<u8>, AllocError>
+/// Room for a piece of the input.
+pub fn empty_piece(alloc: Global) -> Result<Vec<u8>, AllocError>
     ensures { IfOk result (λ piece. 0 < length piece.items) }
 {
     vec![in alloc; 0; PIECE]

@@ -8,7 +8,8 @@ use crate::{Answering, Ending, answer_lines};
 use news_io::{Sink, Source, write_through};
 use std::alloc::Global;
 
-fn status_number(why: Ending) -> u8
+/// The status of a run that this ended.
+pub fn status_number(why: Ending) -> u8
     ensures { result ≡ number_of why }
 {
     match why {
@@ -21,7 +22,8 @@ fn status_number(why: Ending) -> u8
     }
 }
 
-fn status_line(why: Ending) -> &'static [u8]
+/// The line that tells it: none where the output failed.
+pub fn status_line(why: Ending) -> &'static [u8]
     ensures { result.now ≡ line_of (Err why) }
 {
     match why {

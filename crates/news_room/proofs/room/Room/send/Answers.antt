@@ -19,7 +19,7 @@ frame-requires g c =
     let names = c.requires.chosen.1 in
     let is = c.requires.chosen.2.0 in
     let there = chosen_there b.list names c.args.moment c.args.subscriber c.args.k c.requires.chosen.2.1 in
-    (b.list, (is.machine_for, there.0, there.1, there.2))
+    (b.list, (is.machine_for, there.0, omega (arith, there.1), omega (arith, there.1, there.2)))
 
 pub put-kept-requires-clause-stands : goal.put-kept-requires-clause-stands
 put-kept-requires-clause-stands g c = (c.requires.chosen.0, c.requires.chosen.2.0)

@@ -1,0 +1,4 @@
+pub mod Decides
+pub mod Items
+pub mod Passes
+pub mod Ready

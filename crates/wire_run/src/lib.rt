@@ -1,0 +1,22 @@
+//! The stories of a wire, or one item, are answered one after the other, from a source to a sink.
+//!
+//! Each answer is a line, and a fault is answered by a line of its own. An answer is passed on before what follows it is
+//! looked at.
+#![tactic(auto)]
+
+mod ingesting;
+mod item;
+mod laws;
+mod members;
+mod run;
+mod wire;
+mod words;
+
+pub use ingesting::Ingesting;
+pub use item::answer_item;
+pub use laws::decided_law;
+pub use run::{run_item, run_wire};
+pub use wire::answer_wire;
+
+#[cfg(test)]
+mod tests;
