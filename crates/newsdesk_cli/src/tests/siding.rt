@@ -184,3 +184,22 @@ fn a_log_is_packed(rt: HostRuntime) -> Result<(), Fail> {
     assert!(rt; is_left_of(alloc, PACK, &[], (log, SIDE), again)?);
     Ok(())
 }
+
+/// A log that was begun in the first edition opens, and is packed as any other; its header keeps the edition.
+#[test]
+fn an_early_log_is_packed(rt: HostRuntime) -> Result<(), Fail> {
+    let alloc = rt.alloc();
+    let mut early = joined(alloc, TWO)?;
+    if let Some(edition) = early.get_mut(8) {
+        *edition = 1;
+    }
+    let log = MemoryDisk::holding(alloc, &early)?;
+    let checked = done_over(alloc, CHECK, &[], log, MemoryDisk::new(alloc))?;
+    let entries = lines_of(alloc, &[TWO_ENTRIES])?;
+    assert!(rt; checked.status == 0 && checked.output.as_bytes() == entries.as_slice());
+    let left = done_over(alloc, PACK, &[], checked.log, checked.side)?;
+    let packed = lines_of(alloc, &[PACKED])?;
+    assert!(rt; left.status == 0 && left.output.as_bytes() == packed.as_slice());
+    assert!(rt; left.side.as_bytes() == SIDE && left.log.as_bytes().get(8) == Some(&1));
+    Ok(())
+}

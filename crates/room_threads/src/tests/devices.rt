@@ -5,7 +5,7 @@ ghost use Rattle.news_room.specs.Stands.{SomeBook};
 use super::command_of;
 use news_io::{Keeper, MemoryDisk, Tear};
 use news_journal::{Header, Journal, Opened};
-use news_room::{Answered, Kept, Room, Ticked};
+use news_room::{Answered, Claimed, Kept, Room, Ticked};
 use news_types::{Name, Reply};
 use std::alloc::Global;
 use std::process::Abort;
@@ -30,6 +30,7 @@ const FLASHED: &[u8] =
 enum Told {
     Done(Reply),
     Kept { entry: u64 },
+    Job { k: u32, front: u64 },
     Fault,
     Other,
 }
@@ -54,6 +55,14 @@ fn tell_ticked(ticked: Ticked) -> Told {
     match ticked {
         Ticked::Kept { entry } => Told::Kept { entry },
         Ticked::Fault => Told::Fault,
+        _ => Told::Other,
+    }
+}
+
+fn tell_claimed(claimed: Claimed) -> Told {
+    match claimed {
+        Claimed::Job { k, front, .. } => Told::Job { k, front },
+        Claimed::Fault => Told::Fault,
         _ => Told::Other,
     }
 }
@@ -83,6 +92,15 @@ fn receive<K: Keeper>(rt: &impl Abort, room: &mut Room<K>) -> Told
     tell_kept(room.receipt(1600, alpha, 1))
 }
 
+/// What a claim for `alpha` is answered at 1600.
+fn claim<K: Keeper>(rt: &impl Abort, room: &mut Room<K>) -> Told
+    requires { SomeBook K.keeper room.old }
+    ensures { SomeBook K.keeper room.new }
+{
+    let alpha = Name::read("alpha").expect(rt, "a name");
+    tell_claimed(room.claim(1600, &[alpha]))
+}
+
 /// What a tick is answered at 1600.
 fn tick<K: Keeper>(room: &mut Room<K>) -> Told
     requires { SomeBook K.keeper room.old }
@@ -91,8 +109,8 @@ fn tick<K: Keeper>(room: &mut Room<K>) -> Told
     tell_ticked(room.tick(1600))
 }
 
-/// A script of four calls, each of which keeps an entry: a request, another, the tick at which what was flashed is
-/// released for `alpha`, and its receipt.
+/// A script of five calls, each of which keeps an entry: a request, another, the tick at which what was flashed is
+/// released for `alpha`, the claim that hands it out, and its receipt.
 fn call<K: Keeper>(rt: &impl Abort, alloc: Global, room: &mut Room<K>, number: u64) -> Told
     requires { SomeBook K.keeper room.old }
     ensures { SomeBook K.keeper room.new }
@@ -101,6 +119,7 @@ fn call<K: Keeper>(rt: &impl Abort, alloc: Global, room: &mut Room<K>, number: u
         1 => send(rt, alloc, room, 1, LAGGED),
         2 => send(rt, alloc, room, 2, FLASHED),
         3 => tick(room),
+        4 => claim(rt, room),
         _ => receive(rt, room),
     }
 }
@@ -111,7 +130,8 @@ fn want(number: u64) -> Told {
         1 => done(1, 0, 0),
         2 => done(2, 1, 1000),
         3 => Told::Kept { entry: 3 },
-        _ => done(4, 0, 0),
+        4 => Told::Job { k: 1, front: 4 },
+        _ => done(5, 0, 0),
     }
 }
 
@@ -142,6 +162,7 @@ fn run_to_fault<K: Keeper>(rt: &impl Abort, alloc: Global, room: &mut Room<K>, t
     before(rt, alloc, room, 1, tried);
     before(rt, alloc, room, 2, tried);
     before(rt, alloc, room, 3, tried);
+    before(rt, alloc, room, 4, tried);
     let front = room.front();
     assert_eq!(rt; call(rt, alloc, room, tried), Told::Fault);
     assert_eq!(rt; room.front(), front);
@@ -191,7 +212,7 @@ fn left(rt: &impl Abort, alloc: Global, disk: &MemoryDisk, landed: bool) -> u64 
 
 /// A device call of the script fails: only where it is the last one of its append may a crash leave what was tried.
 fn fails_at(rt: &impl Abort, alloc: Global, device_call: u64)
-    requires { device_call ≤ 16 }
+    requires { device_call ≤ 20 }
 {
     let tried = device_call.div_ceil(APPEND);
     let mut room = room_on(rt, alloc, MAKING + device_call);
@@ -209,7 +230,7 @@ fn fails_at(rt: &impl Abort, alloc: Global, device_call: u64)
 #[test]
 fn each_device_call_may_fail(rt: HostRuntime) {
     let alloc = rt.alloc();
-    for device_call in 1..=16 {
+    for device_call in 1..=20 {
         fails_at(&rt, alloc, device_call);
     }
 }

@@ -1,0 +1,4 @@
+pub mod Digits
+pub mod Limits
+pub mod Ranges
+pub mod Counts

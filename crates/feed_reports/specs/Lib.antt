@@ -1,0 +1,4 @@
+pub mod Line
+pub mod Feed
+pub mod Queue
+pub mod Attempts
