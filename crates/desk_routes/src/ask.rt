@@ -6,7 +6,7 @@ ghost use Rattle.desk_routes.specs.Routes.{routed};
 ghost use Rattle.desk_routes.specs.declared.ask.Refusal.TheVariants.{NoRoute, NoCaller};
 
 use crate::path::{name_at, number_at};
-use crate::route::{Route, find_route};
+use crate::route::{Route, Routes};
 use desk_lines::{Asked, LineFault, LineProperty, read_receipt_body, read_request_body};
 use http_wire::HttpRequest;
 use news_types::{Command, Incoming, Name, Query};
@@ -60,35 +60,36 @@ pub enum Refusal {
     Memory,
 }
 
-/// Reads what a request asks.
-///
-/// # Errors
-///
-/// The first that holds of these: no route has its method and path, it has no caller, a name or a number in its path is
-/// none, its body is not of the form. Where there is no memory, `Memory` may come in their place.
-pub fn read_ask(alloc: Global, request: &HttpRequest) -> Result<Asking, Refusal>
-    ensures value { IsSaid (said.asking request.now) result }
-    ensures fits { IfOk result (λ asking. FitsAsk asking.ask) }
-{
-    let route = route_of(alloc, request)?;
-    let caller = caller_of(request)?;
-    let ask = ask_by(
-        alloc,
-        route,
-        caller,
-        request.target.as_str(),
-        request.body.as_slice(),
-    )?;
-    Ok(Asking { caller, ask })
+impl Routes {
+    /// Reads what a request asks.
+    ///
+    /// # Errors
+    ///
+    /// The first that holds of these: no route has its method and path, it has no caller, a name or a number in its path is
+    /// none, its body is not of the form. Where there is no memory, `Memory` may come in their place.
+    pub fn read_ask(&self, request: &HttpRequest) -> Result<Asking, Refusal>
+        ensures value { IsSaid (said.asking request.now) result }
+        ensures fits { IfOk result (λ asking. FitsAsk asking.ask) }
+    {
+        let route = route_of(self, request)?;
+        let caller = caller_of(request)?;
+        let ask = ask_by(
+            self.alloc(),
+            route,
+            caller,
+            request.target.as_str(),
+            request.body.as_slice(),
+        )?;
+        Ok(Asking { caller, ask })
+    }
 }
 
-fn route_of(alloc: Global, request: &HttpRequest) -> Result<Route, Refusal>
-    ensures { IsSaid (or_refused NoRoute (routed request.now.method request.now.target)) result }
+fn route_of(routes: &Routes, request: &HttpRequest) -> Result<Route, Refusal>
+    ensures { result ≡ or_refused NoRoute (routed request.now.method request.now.target) }
 {
-    match find_route(alloc, &request.method, request.target.as_str()) {
-        Ok(Some(route)) => Ok(route),
-        Ok(None) => Err(Refusal::NoRoute),
-        Err(_) => Err(Refusal::Memory),
+    match routes.find(&request.method, request.target.as_str()) {
+        Some(route) => Ok(route),
+        None => Err(Refusal::NoRoute),
     }
 }
 

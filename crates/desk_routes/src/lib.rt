@@ -12,14 +12,14 @@ mod response;
 mod rights;
 mod route;
 
-pub use ask::{Asking, HttpAsk, Refusal, read_ask};
+pub use ask::{Asking, HttpAsk, Refusal};
 pub use laws::paths_law;
 pub use response::{
     Media, Notice, Response, notify, refuse, respond_answer, respond_denial, respond_reply,
     status_of_denial,
 };
 pub use rights::{Gate, Right, allows, gate_of, right_of};
-pub use route::{Route, find_route};
+pub use route::{Route, Routes};
 
 #[cfg(test)]
 mod tests;

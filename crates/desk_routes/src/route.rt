@@ -6,6 +6,7 @@ use http::Method;
 use matchit::Router;
 use news_types::Memory;
 use std::alloc::Global;
+use std::marker::Model;
 
 /// What a request may be for.
 #[derive(Clone, Copy, Debug, PartialEq, Eq)]
@@ -82,14 +83,46 @@ fn route_at(router: &Router<Route>, path: &str) -> Option<Route>
     }
 }
 
-/// The route that has this method and path, if there is one.
-pub fn find_route(alloc: Global, method: &Method, path: &str) -> Result<Option<Route>, Memory>
-    ensures { IfOk result (λ found. found ≡ routed method.now path.now) }
-{
-    let router = router_of_all(alloc)?;
-    match route_at(&router, path) {
-        None => Ok(None),
-        Some(route) => Ok(if_method(method, route)),
+/// The seven routes by their paths: made once, for any number of requests.
+#[derive(Drop)]
+pub struct Routes {
+    alloc: Global,
+    router: Router<Route>,
+}
+
+impl Model for Routes {
+    ghost use Rattle.std.specs.Prelude.{◌≡◌};
+    ghost use Rattle.desk_routes.specs.Routes.{seven};
+
+    ghost Value = { Unit {0} };
+
+    ghost view = { λ a. tt };
+
+    ghost invariant = { λ a. a.router ≡ seven };
+}
+
+impl Routes {
+    /// The routes.
+    pub fn new(alloc: Global) -> Result<Routes, Memory> {
+        Ok(Routes {
+            alloc,
+            router: router_of_all(alloc)?,
+        })
+    }
+
+    /// The allocator that they were made with.
+    pub fn alloc(&self) -> Global {
+        self.alloc
+    }
+
+    /// The route that has this method and path, if there is one.
+    pub fn find(&self, method: &Method, path: &str) -> Option<Route>
+        ensures { result ≡ routed method.now path.now }
+    {
+        match route_at(&self.router, path) {
+            Some(route) => if_method(method, route),
+            None => None,
+        }
     }
 }
 

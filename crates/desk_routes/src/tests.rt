@@ -1,6 +1,6 @@
 //! Each route, each refusal, and a response of each status.
 use crate::{
-    Asking, HttpAsk, Media, Notice, Refusal, Response, notify, read_ask, refuse, respond_answer,
+    Asking, HttpAsk, Media, Notice, Refusal, Response, Routes, notify, refuse, respond_answer,
     respond_denial, respond_reply,
 };
 use desk_lines::LineProperty;
@@ -41,7 +41,10 @@ fn asking(
 }
 
 fn asked(alloc: Global, request: HttpRequest) -> Result<Asking, Refusal> {
-    read_ask(alloc, &request)
+    match Routes::new(alloc) {
+        Ok(routes) => routes.read_ask(&request),
+        Err(_) => Err(Refusal::Memory),
+    }
 }
 
 /// The question of a GET by `admin`.

@@ -77,7 +77,7 @@ module _ (log side : List ℕ) (store : Bytes) (h : History) (long : length stor
     | inr file ↦
         let begins = opened_begins (side_head store) side file.segments file.is in
         let same : side_form other.kind other.owner ≡ side_form 3 store =
-            sym other.head ∙ ap (take 64) begins.1 ∙ take_at (side_head store) begins.0 64 (length-side store long) ∙ side_head_form store in
+        sym other.head ∙ ap (take 64) begins.1 ∙ take_at (side_head store) begins.0 64 (length-side store long) ∙ side_head_form store in
         other.other
         (ap (λ (l : List ℕ). slice_index l 9) same)
         (sym (owner_there other.kind other.owner other.long) ∙ ap (λ (l : List ℕ). take 16 (drop 16 l)) same ∙ owner_there 3 store long)
