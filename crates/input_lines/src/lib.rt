@@ -18,7 +18,7 @@ pub fn line_feed(bytes: &[u8]) -> Option<usize>
 }
 
 /// Puts these bytes behind the line, as far as they matter: a byte more than the longest line and its CR.
-pub fn keep(line: &mut Vec<u8>, bytes: &[u8], longest: u32) -> Result<(), AllocError>
+pub fn extend_line(line: &mut Vec<u8>, bytes: &[u8], longest: u32) -> Result<(), AllocError>
     requires { length line.old.items ≤ longest + 2 }
     ensures kept { OnOk result (line.new.items ≡ take (longest + 2) (line.old.items ++ bytes.now)) }
     ensures short { OnOk result (length line.new.items ≤ longest + 2) }

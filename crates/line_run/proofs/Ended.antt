@@ -4,13 +4,15 @@ use Rattle.std.proofs.lemmas.List.{append-nil, take_all, length-append}
 use Rattle.std.specs.Prelude.{OnOk, OnErr}
 use Rattle.news_io.specs.declared.faults.Failed.{Failed}
 use Rattle.news_io.specs.Faults.{Counts, Rose}
-use Rattle.line_run.specs.Life.{Meaning, Life, Wrote, AllPassed, Kept}
+use Rattle.line_run.specs.Life.{Meaning, Life, Kept}
+use Rattle.run_status.specs.Output.{Wrote, AllPassed, Told}
 use Rattle.line_run.specs.Turns.{AnsweredAll, AnsweredSome, after}
 use Rattle.line_run.specs.Run.{IsEnd, NotByOutput, Ran, Ends}
-use Rattle.line_run.specs.Status.{number_of, line_of, Told, CrashLeaves, IsComplete}
+use Rattle.line_run.specs.Status.{status_by, CrashLeaves, IsComplete}
+use Rattle.run_status.specs.Status.{number_of, line_of}
 use Rattle.line_run.specs.declared.ending.Ending.{Ending}
 use Rattle.line_run.specs.declared.ending.Ending.TheVariants as end
-use Rattle.line_run.proofs.Steps.{wrote_none, wrote_is}
+use Rattle.run_status.proofs.Tellings.{wrote_none, wrote_is}
 use Rattle.line_run.proofs.Runs.{after_more}
 use Rattle.line_run.proofs.Inputs.{end_passed}
 use Rattle.news_io.specs.Source.{SourceMeaning}
@@ -19,34 +21,6 @@ use Rattle.news_io.specs.Sink.{SinkMeaning}
 pub rose_later : (a b c : ℕ) → Rose a b → b ≤ c → Rose a c
 rose_later a b c (inl lt) le = inl (omega (arith, lt, le))
 rose_later a b c (inr top) le = inr (omega (arith, top, le))
-
-module _ {O : Type 0} (sink : SinkMeaning O) where
-  pub told_none : (o : O) → Told sink o o []
-  told_none o = record { count = 0; wrote = wrote_none sink o; whole = inl (omega arith, λ t some. absurd (omega (arith, some))); later = omega arith; silent = λ e. refl }
-
-  pub told_through : (o o' : O) (line : List ℕ) → Wrote sink o o' line → (sink.tells o → AllPassed sink o') → sink.faults o' ≡ sink.faults o → 0 < length line → Told sink o o' line
-  told_through o o' line w passed calm some = record {
-    count = length line;
-    wrote = wrote_is sink o o' line (take (length line) line) (sym (take_all (length line) line (omega arith))) w;
-    whole = inl (omega arith, λ t lt. passed t);
-    later = omega (arith, calm);
-    silent = λ e. absurd (omega (arith, some, ap length e));
-  }
-
-  pub told_cut : (o o' : O) (line : List ℕ) (n : ℕ) → Wrote sink o o' (take n line) → sink.faults o ≤ sink.faults o' → Rose (sink.faults o) (sink.faults o') → 0 < length line → Told sink o o' line
-  told_cut o o' line n w later rose some = record {
-    count = n;
-    wrote = w;
-    whole = inr rose;
-    later = later;
-    silent = λ e. absurd (omega (arith, some, ap length e));
-  }
-
-  -- a line, by what its writing was answered
-  pub told_of : (o o' : O) (line : List ℕ) (r : Result (Unit {0}) Failed) → 0 < length line → (sink.tells o → OnOk r (sink.taken o' ≡ sink.taken o ++ line)) → (sink.tells o → OnOk r (AllPassed sink o'))
-      → OnErr r ((n : ℕ) × (n ≤ length line) × (sink.tells o → sink.taken o' ≡ sink.taken o ++ take n line)) → (sink.tells o → sink.tells o') → Counts (sink.faults o) (sink.faults o') r → Told sink o o' line
-  told_of o o' line (Ok u) some ok passed err told count = told_through o o' line (record { told = told; bytes = ok }) passed count.calm some
-  told_of o o' line (Err why) some ok passed err told count = told_cut o o' line err.0 (record { told = told; bytes = err.2 }) count.later count.failed some
 
 module _ {T C A : Type 0} (L : Life T C A) where
   pub leaves : (old new : A) (h g : List T) → L.stands old h → (more : List T) × (g ≡ more ++ h) → Kept L old new h g → CrashLeaves L old new h
@@ -87,7 +61,7 @@ module _ {T C A : Type 0} (L : Life T C A) where
 
 module _ {T C S A O X : Type 0} (M : Meaning T X) (L : Life T C A) (source : SourceMeaning S) (sink : SinkMeaning O) (decided all : List ℕ → List X) (most : ℕ) where
   pub completes : (i i' : S) (old new : A) (o o' : O) (h : List T) (f f' m m' c c' : ℕ) (why : Ending) → Ran M L source sink decided all most i i' old new o o' h (Err why) → Ends f f' m m' c c' (Err why)
-      → source.tells i → length (source.ahead i) ≤ most → (Rose f f' → ⊥) → (Rose c c' → ⊥) → (Rose m m' → ⊥) → IsComplete (number_of why)
+      → source.tells i → length (source.ahead i) ≤ most → (Rose f f' → ⊥) → (Rose c c' → ⊥) → (Rose m m' → ⊥) → IsComplete (number_of (status_by why))
   completes i i' old new o o' h f f' m m' c c' end.Read ran ends g short nf nc nm = absurd (nf ends.0)
   completes i i' old new o o' h f f' m m' c c' end.Write ran ends g short nf nc nm = absurd (nc ends.1.1)
   completes i i' old new o o' h f f' m m' c c' end.Store ran ends g short nf nc nm = absurd (nm ends.1.0)
@@ -110,7 +84,7 @@ module _ {O : Type 0} (sink : SinkMeaning O) where
   line_passed o o' line some told t = ⊎_elim (λ through. inl (through.1 t some)) (λ rose. inr rose) told.whole
 
   -- behind the status line all has passed on, or the output has failed
-  pub told_passed : (f f' m m' : ℕ) (o mid o' : O) (why : Ending) → (sink.tells o → sink.tells mid) → Ends f f' m m' (sink.faults o) (sink.faults mid) (Err why) → Told sink mid o' (line_of (Err why))
+  pub told_passed : (f f' m m' : ℕ) (o mid o' : O) (why : Ending) → (sink.tells o → sink.tells mid) → Ends f f' m m' (sink.faults o) (sink.faults mid) (Err why) → Told sink mid o' (line_of (status_by why))
       → sink.tells o → AllPassed sink o' ⊎ Rose (sink.faults o) (sink.faults o')
   told_passed f f' m m' o mid o' end.Write goes ends told t = inr (rose_later (sink.faults o) (sink.faults mid) (sink.faults o') ends.1.1 told.later)
   told_passed f f' m m' o mid o' end.Read goes ends told t = ⊎_elim (λ is. inl is) (λ rose. inr (rose_from _ _ _ ends.2 rose)) (line_passed mid o' _ (omega arith) told (goes t))

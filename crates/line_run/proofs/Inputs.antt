@@ -4,12 +4,13 @@ use Rattle.std.proofs.lemmas.Bool.{cases_lt}
 use Rattle.std.proofs.lemmas.List.{append-nil, nil_from_length, take-append-drop, length-drop, take_at, take-take, length-append, length-take}
 use Rattle.input_lines.specs.Lines.{Line, lines, ended, unless_empty, ended_from, open_from}
 use Rattle.input_lines.proofs.Cuts.{ended-append}
-use Rattle.line_run.specs.Life.{Meaning, Life, Wrote, AllPassed}
+use Rattle.line_run.specs.Life.{Meaning, Life}
+use Rattle.run_status.specs.Output.{Wrote, AllPassed}
 use Rattle.line_run.specs.Turns.{texts, ByLog, AnsweredAll, AnsweredSome, Causes}
 use Rattle.line_run.specs.Run.{WasRead, IsEnd, NotByOutput, Ran, ReadSoFar, ReadAll}
 use Rattle.line_run.specs.declared.ending.Ending.{Ending}
 use Rattle.line_run.specs.declared.ending.Ending.TheVariants as end
-use Rattle.line_run.proofs.Steps.{wrote_none}
+use Rattle.run_status.proofs.Tellings.{wrote_none}
 use Rattle.line_run.proofs.Runs.{none_yet, all_then, some_then, none_some, some_of, wrote_then}
 use Rattle.news_io.specs.Source.{SourceMeaning}
 use Rattle.news_io.specs.Sink.{AreFirst, SinkMeaning}

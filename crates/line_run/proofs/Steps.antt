@@ -9,7 +9,8 @@ use Rattle.line_run.specs.declared.answering.Stopped.{Stopped}
 use Rattle.line_run.specs.declared.answering.Stopped.TheVariants as stop
 use Rattle.line_run.specs.declared.ending.Ending.{Ending}
 use Rattle.line_run.specs.declared.ending.Ending.TheVariants as end
-use Rattle.line_run.specs.Life.{Meaning, Life, Wrote, AllPassed, Took, Kept}
+use Rattle.line_run.specs.Life.{Meaning, Life, Took, Kept}
+use Rattle.run_status.specs.Output.{Wrote, AllPassed}
 use Rattle.line_run.specs.Step.{KeeperStopped, IsAnswered, IsStopped}
 use Rattle.line_run.specs.Turns.{ending_of, ByLog, AnsweredAll, AnsweredSome}
 

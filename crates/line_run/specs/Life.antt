@@ -1,9 +1,8 @@
 -- Lists of what was kept, the newest first, and what stands for one.
-use Rattle.std.specs.Prelude.{◌≡◌, ℕ, Bool, List, ◌++◌}
+use Rattle.std.specs.Prelude.{◌≡◌, ℕ, Bool, List}
 use Rattle.news_io.specs.Clock.{Gave}
 use Rattle.news_io.specs.Left.{IsLeft, Between}
 use Rattle.news_io.specs.Moments.{Elapses}
-use Rattle.news_io.specs.Sink.{SinkMeaning}
 
 -- what a member of the input is answered, what follows the list, the newest first, whether one of that would pass the limit, and the readings of the clock
 pub record Outcome (T : Type 0) : Type 0 where
@@ -29,15 +28,6 @@ pub record Life (T C A : Type 0) : Type 1 where
   pub ahead : A → ℕ → ℕ
   -- a crash now leaves the list, or the list with one entry in doubt
   pub leaves_now : (it : A) (h : List T) (found : C) → stands it h → left_since it (moment it) found → IsLeft opens h (doubts it) found
-
--- what was added, where it is told
-pub record Wrote {O : Type 0} (sink : SinkMeaning O) (old new : O) (written : List ℕ) : Type 0 where
-  pub told : sink.tells old → sink.tells new
-  pub bytes : sink.tells old → sink.taken new ≡ sink.taken old ++ written
-
--- all that was written has passed on
-abbrev pub AllPassed : {O : Type 0} → SinkMeaning O → O → Type 0
-AllPassed sink o = sink.passed o ≡ sink.taken o
 
 -- the readings that were taken, where they are told
 pub record Took {T C A : Type 0} (L : Life T C A) (old new : A) (readings : List ℕ) : Type 0 where

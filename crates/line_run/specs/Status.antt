@@ -1,53 +1,39 @@
--- The status of a run, with its line and its cause.
+-- The status of a run, with its cause.
 use Rattle.std.specs.Prelude.{◌≡◌, ◌⊎◌, ◌<◌, ◌≤◌, ℕ, List, [], ◌∷◌, ◌++◌, length, take, codes, Result, Ok, Err}
 use Rattle.news_io.specs.Faults.{Rose}
 use Rattle.news_io.specs.Left.{IsLeft, Between}
-use Rattle.line_run.specs.Life.{Meaning, Life, Wrote, AllPassed}
+use Rattle.line_run.specs.Life.{Meaning, Life}
+use Rattle.run_status.specs.Status.{number_of, line_of}
+use Rattle.run_status.specs.declared.status.Status.{Status}
+use Rattle.run_status.specs.declared.status.Status.TheVariants as status
+use Rattle.run_status.specs.Output.{AllPassed, Told}
 use Rattle.line_run.specs.Run.{Ran, Ends}
 use Rattle.line_run.specs.declared.ending.Ending.{Ending}
 use Rattle.line_run.specs.declared.ending.Ending.TheVariants as end
 use Rattle.news_io.specs.Source.{SourceMeaning}
 use Rattle.news_io.specs.Sink.{SinkMeaning}
 
-abbrev pub number_of : Ending → ℕ
-number_of end.Read = 4
-number_of end.Write = 5
-number_of end.Store = 6
-number_of end.Full = 8
-number_of end.Memory = 9
-number_of end.TooLong = 12
+-- what a run ends with, by what ended it
+abbrev pub status_by : Ending → Status
+status_by end.Read = status.Input
+status_by end.Write = status.Output
+status_by end.Store = status.Store
+status_by end.Full = status.Full
+status_by end.Memory = status.Memory
+status_by end.TooLong = status.TooLong
 
-abbrev pub status_of : Result (Unit {0}) Ending → ℕ
-status_of (Ok u) = 0
-status_of (Err why) = number_of why
-
--- nothing is said of a failed output
-abbrev pub line_of : Result (Unit {0}) Ending → List ℕ
-line_of (Ok u) = []
-line_of (Err end.Read) = codes "{\"status\":4}" ++ 10 ∷ []
-line_of (Err end.Write) = []
-line_of (Err end.Store) = codes "{\"status\":6}" ++ 10 ∷ []
-line_of (Err end.Full) = codes "{\"status\":8}" ++ 10 ∷ []
-line_of (Err end.Memory) = codes "{\"status\":9}" ++ 10 ∷ []
-line_of (Err end.TooLong) = codes "{\"status\":12}" ++ 10 ∷ []
-
--- the line was written and has passed on, or the first of it was written and the output has failed
-pub record Told {O : Type 0} (sink : SinkMeaning O) (old new : O) (line : List ℕ) : Type 0 where
-  pub count : ℕ
-  pub wrote : Wrote sink old new (take count line)
-  pub whole : ((length line ≤ count) × (sink.tells old → 0 < length line → AllPassed sink new)) ⊎ Rose (sink.faults old) (sink.faults new)
-  pub later : sink.faults old ≤ sink.faults new
-  -- without a line nothing is done
-  pub silent : line ≡ [] → new ≡ old
+abbrev pub status_of : Result (Unit {0}) Ending → Status
+status_of (Ok u) = status.Done
+status_of (Err why) = status_by why
 
 pub record IsRun {T C S A O X : Type 0} (M : Meaning T X) (L : Life T C A) (fails : A → ℕ) (source : SourceMeaning S) (sink : SinkMeaning O) (decided all : List ℕ → List X) (most : ℕ) (i i' : S) (old new : A) (o o' : O) (h : List T) (status : ℕ) : Type 0 where
   pub result : Result (Unit {0}) Ending
-  pub status_is : status ≡ status_of result
+  pub status_is : status ≡ number_of (status_of result)
   -- the output before the status line
   pub mid : O
   pub ran : Ran M L source sink decided all most i i' old new o mid h result
   pub ends : Ends (source.faults i) (source.faults i') (fails old) (fails new) (sink.faults o) (sink.faults mid) result
-  pub line : Told sink mid o' (line_of result)
+  pub line : Told sink mid o' (line_of (status_of result))
   -- all that was written has passed on, unless the output has failed
   pub passed : sink.tells o → AllPassed sink o' ⊎ Rose (sink.faults o) (sink.faults o')
   pub done : status ≡ 0 → sink.tells o → AllPassed sink o'

@@ -1,7 +1,8 @@
 -- What a machine does with lines, one after the other.
 use Rattle.std.specs.Prelude.{◌≡◌, ◌⊎◌, ◌<◌, ℕ, true, false, List, [], ◌∷◌, ◌++◌, length, Result, Ok, Err}
 use Rattle.news_io.specs.Faults.{Rose}
-use Rattle.line_run.specs.Life.{Outcome, Meaning, Life, Wrote, AllPassed, Took, Kept}
+use Rattle.line_run.specs.Life.{Outcome, Meaning, Life, Took, Kept}
+use Rattle.run_status.specs.Output.{Wrote, AllPassed}
 use Rattle.line_run.specs.Step.{IsNext}
 use Rattle.line_run.specs.declared.answering.Stopped.{Stopped}
 use Rattle.line_run.specs.declared.answering.Stopped.TheVariants.{Memory, Fault, Full}

@@ -4,7 +4,7 @@ ghost use Rattle.input_lines.specs.Lines.{unless_empty, ended_from, open_from};
 ghost use Rattle.line_run.specs.Turns.{Did, Causes};
 
 use crate::{Answering, Ending};
-use input_lines::{behind, keep, line_feed, show, without_return};
+use input_lines::{behind, extend_line, line_feed, show, without_return};
 use news_io::{Sink, write_through};
 
 /// Answers a line, writes the answer with a line feed, and passes it on.
@@ -62,7 +62,7 @@ pub(crate) fn answer_piece<O: Sink, A: Answering>(
 {
     let mut rest = piece;
     while let Some(count) = line_feed(rest) {
-        if let Err(_) = keep(line, &rest[..count], longest) {
+        if let Err(_) = extend_line(line, &rest[..count], longest) {
             return Err(Ending::Memory);
         }
         if let Err(why) = answer_some(without_return(line), longest, output, machine) {
@@ -71,7 +71,7 @@ pub(crate) fn answer_piece<O: Sink, A: Answering>(
         line.clear();
         rest = behind(rest, count);
     }
-    if let Err(_) = keep(line, rest, longest) {
+    if let Err(_) = extend_line(line, rest, longest) {
         return Err(Ending::Memory);
     }
     Ok(())

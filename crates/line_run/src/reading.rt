@@ -2,7 +2,7 @@
 ghost use Rattle.std.specs.Prelude.{◌≡◌, ◌≤◌, ◌<◌, ◌+◌, ◌^◌, ◌++◌, [], ℕ, List, length, take, IfOk, OnErr, OnOk};
 ghost use Rattle.news_io.specs.Faults.{Counts};
 ghost use Rattle.input_lines.specs.Lines.{ended, lines, open_from};
-ghost use Rattle.line_run.specs.Life.{AllPassed};
+ghost use Rattle.run_status.specs.Output.{AllPassed};
 ghost use Rattle.line_run.specs.Run.{Ran, ReadsTo, Ends, NotByOutput};
 
 use crate::loops::{answer_piece, answer_some};

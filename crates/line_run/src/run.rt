@@ -1,50 +1,13 @@
 // The whole run, with its status and the status line.
-ghost use Rattle.std.specs.Prelude.{◌≡◌, ◌≤◌, ◌<◌, ◌+◌, ◌^◌, ◌++◌, [], ℕ, List, length, take, Ok, Err};
+ghost use Rattle.std.specs.Prelude.{◌≤◌, ◌<◌, ◌^◌, ℕ, List, length};
 ghost use Rattle.news_io.specs.Faults.{Rose};
 ghost use Rattle.input_lines.specs.Lines.{ended, lines};
-ghost use Rattle.line_run.specs.Status.{number_of, line_of, Told, IsRun, CrashLeaves, IsComplete};
+ghost use Rattle.line_run.specs.Status.{IsRun, CrashLeaves, IsComplete};
 
-use crate::{Answering, Ending, answer_lines};
-use news_io::{Sink, Source, write_through};
+use crate::{Answering, answer_lines};
+use news_io::{Sink, Source};
+use run_status::{Status, tell_status};
 use std::alloc::Global;
-
-/// The status of a run that this ended.
-pub fn status_number(why: Ending) -> u8
-    ensures { result ≡ number_of why }
-{
-    match why {
-        Ending::Read => 4,
-        Ending::Write => 5,
-        Ending::Store => 6,
-        Ending::Full => 8,
-        Ending::Memory => 9,
-        Ending::TooLong => 12,
-    }
-}
-
-/// The line that tells it: none where the output failed.
-pub fn status_line(why: Ending) -> &'static [u8]
-    ensures { result.now ≡ line_of (Err why) }
-{
-    match why {
-        Ending::Read => b"{\"status\":4}\n",
-        Ending::Write => b"",
-        Ending::Store => b"{\"status\":6}\n",
-        Ending::Full => b"{\"status\":8}\n",
-        Ending::Memory => b"{\"status\":9}\n",
-        Ending::TooLong => b"{\"status\":12}\n",
-    }
-}
-
-/// Writes the line as far as the output takes it, and passes it on.
-pub fn tell<O: Sink>(output: &mut O, line: &[u8])
-    ensures { Told O.sink output.old output.new line.now }
-{
-    if line.len() == 0 {
-        return;
-    }
-    let _ = write_through(output, line);
-}
 
 /// Answers the lines of the input. The status is 0, or tells what ended the run.
 pub fn run_lines<S: Source, O: Sink, A: Answering>(
@@ -64,10 +27,7 @@ pub fn run_lines<S: Source, O: Sink, A: Answering>(
         → (Rose (A.faults machine.old) (A.faults machine.new) → ⊥) → IsComplete result }
 {
     match answer_lines(alloc, input, output, machine, longest, most) {
-        Ok(()) => 0,
-        Err(why) => {
-            tell(output, status_line(why));
-            status_number(why)
-        }
+        Ok(()) => Status::Done.number(),
+        Err(why) => tell_status(output, Status::from(why)),
     }
 }

@@ -62,7 +62,7 @@ impl<D: Disk> Journal<D> {
     }
 
     /// Writes the record behind the closed gate, and then opens the gate.
-    pub fn keep(&mut self, framed: &[u8]) -> Result<(), Failed>
+    pub fn write_record(&mut self, framed: &[u8]) -> Result<(), Failed>
         requires framed { IsFramed framed.now }
         requires room { self.old.gate + 1 + length framed.now ≤ 2 ^ 30 }
         requires shut { self.old.ajar ≡ false }
@@ -109,7 +109,7 @@ impl<D: Disk> Journal<D> {
         ensures calls { CalledWithin (append_calls self.old.ajar) (D.disk.calls self.old.disk) (D.disk.calls self.new.disk) }
     {
         self.quiet()?;
-        self.keep(framed)?;
+        self.write_record(framed)?;
         Ok(())
     }
 }

@@ -118,7 +118,7 @@ impl<D: Disk> Pair<D> {
         ensures fault { IfErr result (λ e. (D.disk.faults (side_disk self) ≤ D.disk.faults e.1) × Rose (D.disk.faults (side_disk self)) (D.disk.faults e.1)) }
     {
         let mut side = Journal::at_gate(self.side, side_header(&self.store), self.end);
-        if let Err(_) = side.keep(framed) {
+        if let Err(_) = side.write_record(framed) {
             return Err((self.log.into_disk(), side.into_disk()));
         }
         let end = side.size() - 1;

@@ -13,7 +13,7 @@ use Rattle.news_room.specs.Stands.{LIMIT, LAST}
 use Rattle.news_room.specs.Steps.{entries, Refused}
 use Rattle.news_room.specs.Claims.{claim_entries}
 use Rattle.news_room.specs.Complete.{HasPlace, HavePlace, OutcomesComplete, ReceiptsComplete, TicksComplete, HaltsComplete, ClaimsComplete}
-use Rattle.news_room.specs.declared.answers.Answered.{Answered}
+use Rattle.news_room.specs.declared.answers.Handled.{Handled}
 use Rattle.news_room.specs.declared.answers.Kept as kept
 use Rattle.news_room.specs.declared.answers.Ticked as ticks
 use Rattle.news_room.specs.declared.claim.Claimed as claims
@@ -31,12 +31,12 @@ has_place n limit (Some e) more size count f place =
     omega (arith, place, none, same, f.grown, f.past)
 
 pub outcomes_complete : OutcomesComplete
-outcomes_complete n more o (Answered.Done reply) step free = inl (ap (λ x. Replied x) (sym step.0))
-outcomes_complete n more o (Answered.Repeat reply) step free = inl (ap (λ x. Replied x) (sym step.0))
-outcomes_complete n more o (Answered.Denied denial) step free = inl (ap (λ x. Replied x) (sym step.0))
-outcomes_complete n more o Answered.Fault step free = absurd (free.calm step.rose)
-outcomes_complete n more o (Answered.Full size count) step free = absurd (has_place n LIMIT o.more more size count step free.place)
-outcomes_complete n more o Answered.Memory step free = inr refl
+outcomes_complete n more o (Handled.Done reply) step free = inl (ap (λ x. Replied x) (sym step.0))
+outcomes_complete n more o (Handled.Repeat reply) step free = inl (ap (λ x. Replied x) (sym step.0))
+outcomes_complete n more o (Handled.Denied denial) step free = inl (ap (λ x. Replied x) (sym step.0))
+outcomes_complete n more o Handled.Fault step free = absurd (free.calm step.rose)
+outcomes_complete n more o (Handled.Full size count) step free = absurd (has_place n LIMIT o.more more size count step free.place)
+outcomes_complete n more o Handled.Memory step free = inr refl
 
 pub receipts_complete : ReceiptsComplete
 receipts_complete n more o (kept.Kept.Done reply) step free = ap (λ x. Replied x) (sym step.0)

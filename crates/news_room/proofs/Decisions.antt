@@ -11,7 +11,7 @@ use Rattle.newsroom.specs.Changes.{Prepares, Decides}
 use Rattle.newsroom.specs.declared.change.Prepared.{Prepared}
 use Rattle.news_room.specs.Stands.{LIMIT, numbers}
 use Rattle.news_room.specs.Steps.{Answers, Given, entries, by_act, outcome_of, KeepStep, After}
-use Rattle.news_room.specs.declared.answers.Answered.{Answered}
+use Rattle.news_room.specs.declared.answers.Handled.{Handled}
 use Rattle.news_room.specs.declared.room.Room.{Room}
 use Rattle.news_room.proofs.Steps.{kept_answers, none_given}
 use Rattle.news_room.proofs.Going.{after_should}
@@ -25,7 +25,7 @@ decides h m _ p is = absurd is
 
 module _ {K : Type 0} (keeper : KeeperMeaning K) where
   -- what was kept is what is decided
-  pub decided_kept : (r r' : Room K) (b : Book) (e : Entry) (more : List Entry) (failed : Bool) (answered : Answered) → by_act b.list e.moment e.act ≡ kept b.list e.moment e.act
+  pub decided_kept : (r r' : Room K) (b : Book) (e : Entry) (more : List Entry) (failed : Bool) (answered : Handled) → by_act b.list e.moment e.act ≡ kept b.list e.moment e.act
       → After keeper r r' b (e ∷ []) more failed (KeepStep (numbers keeper r r') b e more answered) → After keeper r r' b (entries (outcome_of b.list e).more) more failed (Answers (numbers keeper r r') more (outcome_of b.list e) answered)
   decided_kept r r' b e more failed answered is a =
       after_should keeper r r' b (e ∷ []) (entries (outcome_of b.list e).more) more failed (KeepStep (numbers keeper r r') b e more answered) (Answers (numbers keeper r r') more (outcome_of b.list e) answered)

@@ -25,7 +25,7 @@ use Rattle.news_room.specs.Stands.{LIMIT, LAST, numbers}
 use Rattle.news_room.specs.Said.{said, said_kept, said_tick, said_told, is_failure}
 use Rattle.news_room.specs.Steps.{Whole, Given, Refused, Failed, entries, Answers, Receives, RequestStep, IngestStep, ReceiptStep, TickStep, HaltStep, tick_entries, still, DoubtStep, ToldStep, After, is_fault, is_kept_fault, is_tick_fault}
 use Rattle.news_room.specs.Events.{Serves, IsEvent, Happens}
-use Rattle.news_room.specs.declared.answers.Answered.{Answered}
+use Rattle.news_room.specs.declared.answers.Handled.{Handled}
 use Rattle.news_room.specs.declared.answers.Kept as kept
 use Rattle.news_room.specs.declared.answers.Ticked as ticks
 use Rattle.news_room.specs.declared.room.Room.{Room}
@@ -122,13 +122,13 @@ fared_failed n limit o more was f = record { fate = IsFailed; fares = f; fails_i
 fared_starved : (n : Beside) (limit : ℕ) (o : Option Entry) (more : List Entry) (was : Answer) → Whole n [] more → Fared n limit o more was Memory
 fared_starved n limit o more was f = record { fate = IsStarved; fares = f; fails_is = refl; given_is = given_starved o was }
 
-outcome_fared : (n : Beside) (more : List Entry) (o : Outcome outcome.Answered) (answered : Answered) → Answers n more o answered → Fared n LIMIT o.more more (Replied o.answer) (said answered)
-outcome_fared n more o (Answered.Done reply) step = fared_kept n LIMIT o.more more _ _ step.1 refl (ap (λ x. Replied x) step.0)
-outcome_fared n more o (Answered.Repeat reply) step = fared_kept n LIMIT o.more more _ _ step.1 refl (ap (λ x. Replied x) step.0)
-outcome_fared n more o (Answered.Denied denial) step = fared_kept n LIMIT o.more more _ _ step.1 refl (ap (λ x. Replied x) step.0)
-outcome_fared n more o Answered.Fault step = fared_failed n LIMIT o.more more _ step
-outcome_fared n more o (Answered.Full size count) step = fared_full n LIMIT o.more more _ size count step
-outcome_fared n more o Answered.Memory step = fared_starved n LIMIT o.more more _ step
+outcome_fared : (n : Beside) (more : List Entry) (o : Outcome outcome.Answered) (answered : Handled) → Answers n more o answered → Fared n LIMIT o.more more (Replied o.answer) (said answered)
+outcome_fared n more o (Handled.Done reply) step = fared_kept n LIMIT o.more more _ _ step.1 refl (ap (λ x. Replied x) step.0)
+outcome_fared n more o (Handled.Repeat reply) step = fared_kept n LIMIT o.more more _ _ step.1 refl (ap (λ x. Replied x) step.0)
+outcome_fared n more o (Handled.Denied denial) step = fared_kept n LIMIT o.more more _ _ step.1 refl (ap (λ x. Replied x) step.0)
+outcome_fared n more o Handled.Fault step = fared_failed n LIMIT o.more more _ step
+outcome_fared n more o (Handled.Full size count) step = fared_full n LIMIT o.more more _ size count step
+outcome_fared n more o Handled.Memory step = fared_starved n LIMIT o.more more _ step
 
 receipt_fared : (n : Beside) (more : List Entry) (o : Outcome outcome.Answered) (answered : kept.Kept) → Receives n more o answered → Fared n LIMIT o.more more (Replied o.answer) (said_kept answered)
 receipt_fared n more o (kept.Kept.Done reply) step = fared_kept n LIMIT o.more more _ _ step.1 refl (ap (λ x. Replied x) step.0)
@@ -181,7 +181,7 @@ module _ {K : Type 0} (keeper : KeeperMeaning K) where
   happens old new b more call now limit was heard Step same fared a = record { stands = a.stands; step = a.did; event = event old new b more call now limit was heard same fared a.told; told = a.told }
 
   -- a request that is decided at a moment that is said otherwise
-  pub requested : (old new : Room K) (b : Book) (now m : ℕ) (caller : Bytes) (number : ℕ) (command : Command) (more : List Entry) (answered : Answered) → m ≡ moment_at b.list now
+  pub requested : (old new : Room K) (b : Book) (now m : ℕ) (caller : Bytes) (number : ℕ) (command : Command) (more : List Entry) (answered : Handled) → m ≡ moment_at b.list now
       → After keeper old new b (entries (request_at b.list caller number command m).more) more (is_fault answered) (Answers (numbers keeper old new) more (request_at b.list caller number command m) answered)
       → Happens keeper old new b more (Requested caller number command) now (said answered) (RequestStep (numbers keeper old new) b now caller number command more answered)
   requested old new b now m caller number command more answered at a =
@@ -190,7 +190,7 @@ module _ {K : Type 0} (keeper : KeeperMeaning K) where
       (outcome_fared (numbers keeper old new) more (request b.list caller number command now) answered t.did) t
 
   -- and an ingest
-  pub ingested : (old new : Room K) (b : Book) (now m : ℕ) (provider : Bytes) (come : Incoming) (more : List Entry) (answered : Answered) → m ≡ moment_at b.list now
+  pub ingested : (old new : Room K) (b : Book) (now m : ℕ) (provider : Bytes) (come : Incoming) (more : List Entry) (answered : Handled) → m ≡ moment_at b.list now
       → After keeper old new b (entries (ingest_at b.list provider come m).more) more (is_fault answered) (Answers (numbers keeper old new) more (ingest_at b.list provider come m) answered)
       → Happens keeper old new b more (Ingested provider come) now (said answered) (IngestStep (numbers keeper old new) b now provider come more answered)
   ingested old new b now m provider come more answered at a =

@@ -11,7 +11,7 @@ use Rattle.news_room.specs.Log.{size_of, sizes}
 use Rattle.news_room.specs.Beside.{Beside, beside}
 use Rattle.news_room.specs.Stands.{LIMIT}
 use Rattle.news_room.specs.Steps.{Whole, Given, Within, Refused, Failed, Answers, KeepStep, entries}
-use Rattle.news_room.specs.declared.answers.Answered.{Answered}
+use Rattle.news_room.specs.declared.answers.Handled.{Handled}
 
 pub none_kept : (n : Beside) → n.later_faults ≡ n.faults → n.later_used ≡ n.used → Whole n [] []
 none_kept n calm same = record { is = refl; calm = calm; grown = omega (arith, same) }
@@ -36,14 +36,14 @@ one_refused n limit e count told_size told_length size calm same past size_is le
 }
 
 -- a request that is not denied is kept, and so answered as the list answers it
-pub kept_answers : (n : Beside) (b : Book) (m : ℕ) (act : Act) (more : List Entry) (o : Outcome outcome.Answered) (answered : Answered) → o ≡ kept b.list m act → KeepStep n b (entry_of m act) more answered → Answers n more o answered
-kept_answers n b m act more o (Answered.Done reply) is step =
+pub kept_answers : (n : Beside) (b : Book) (m : ℕ) (act : Act) (more : List Entry) (o : Outcome outcome.Answered) (answered : Handled) → o ≡ kept b.list m act → KeepStep n b (entry_of m act) more answered → Answers n more o answered
+kept_answers n b m act more o (Handled.Done reply) is step =
     (ap (λ (x : Outcome outcome.Answered). x.answer) is ∙ ap (λ r. Done r) (sym step.0), subst (λ (x : Outcome outcome.Answered). Given n LIMIT (entries x.more) more) (sym is) step.1)
-kept_answers n b m act more o Answered.Fault is step = subst (λ (x : Outcome outcome.Answered). Failed n LIMIT (entries x.more) more) (sym is) step
-kept_answers n b m act more o (Answered.Full size count) is step = subst (λ (x : Outcome outcome.Answered). Refused n LIMIT (entries x.more) more size count) (sym is) step
-kept_answers n b m act more o Answered.Memory is step = step
-kept_answers n b m act more o (Answered.Repeat reply) is step = absurd step
-kept_answers n b m act more o (Answered.Denied denial) is step = absurd step
+kept_answers n b m act more o Handled.Fault is step = subst (λ (x : Outcome outcome.Answered). Failed n LIMIT (entries x.more) more) (sym is) step
+kept_answers n b m act more o (Handled.Full size count) is step = subst (λ (x : Outcome outcome.Answered). Refused n LIMIT (entries x.more) more size count) (sym is) step
+kept_answers n b m act more o Handled.Memory is step = step
+kept_answers n b m act more o (Handled.Repeat reply) is step = absurd step
+kept_answers n b m act more o (Handled.Denied denial) is step = absurd step
 
 -- nothing follows, and nothing was kept
 pub nothing_given : (n : Beside) (limit : ℕ) (should : List Entry) → should ≡ [] → n.later_faults ≡ n.faults → n.later_used ≡ n.used → Given n limit should []

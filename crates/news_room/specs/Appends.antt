@@ -10,7 +10,7 @@ use Rattle.entry_codec.specs.Spelling.{entry_bytes}
 use Rattle.entry_codec.specs.Formed.{IsEntry}
 use Rattle.news_room.specs.Log.{size_of}
 use Rattle.news_room.specs.Stands.{LIMIT}
-use Rattle.news_room.specs.declared.answers.Answered.{Answered}
+use Rattle.news_room.specs.declared.answers.Handled.{Handled}
 
 -- what a record of an entry is to a keeper
 pub record IsRecord (bytes : Bytes) (e : Entry) : Type 0 where
@@ -41,11 +41,11 @@ module _ {K : Type 0} (keeper : KeeperMeaning K) where
     pub did : Appended k k' limit bytes (Err why) (keeper.list k)
 
   -- an entry's record was kept, or why it was not
-  abbrev pub AppendStep : K → K → Entry → Result (Unit {0}) Answered → Type 0
+  abbrev pub AppendStep : K → K → Entry → Result (Unit {0}) Handled → Type 0
   AppendStep k k' e (Ok u) = (bytes : Bytes) × Kept k k' LIMIT e bytes
-  AppendStep k k' e (Err Answered.Fault) = (bytes : Bytes) × NotKept k k' LIMIT e bytes Fault
-  AppendStep k k' e (Err (Answered.Full size count)) = (bytes : Bytes) × NotKept k k' LIMIT e bytes (Full size count)
-  AppendStep k k' e (Err Answered.Memory) = k' ≡ k
+  AppendStep k k' e (Err Handled.Fault) = (bytes : Bytes) × NotKept k k' LIMIT e bytes Fault
+  AppendStep k k' e (Err (Handled.Full size count)) = (bytes : Bytes) × NotKept k k' LIMIT e bytes (Full size count)
+  AppendStep k k' e (Err Handled.Memory) = k' ≡ k
   AppendStep k k' e (Err _) = ⊥
 
   -- the same of an entry whose record takes no memory

@@ -44,7 +44,7 @@ abbrev pub IsDamage : History → Record → ℕ → Option ℕ → Type 0
 IsDamage h r at found = IsNoEntry r at found ⊎ IsUnlawful h r at found
 
 -- the first record that is damaged is one of the side, or one of the log
-pub record IsDamaged (records : List Record) (side : Bool) (at : ℕ) (found : Option ℕ) : Type 0 where
+pub record HasBadRecord (records : List Record) (side : Bool) (at : ℕ) (found : Option ℕ) : Type 0 where
   pub before : List Record
   pub here : Record
   pub after : List Record
@@ -55,8 +55,8 @@ pub record IsDamaged (records : List Record) (side : Bool) (at : ℕ) (found : O
   pub damage : IsDamage list here at found
 
 abbrev pub IsFault : List Record → RoomFault → Type 0
-IsFault records (RoomFault.Damaged at found) = IsDamaged records false at found
-IsFault records (RoomFault.DamagedSide at found) = IsDamaged records true at found
+IsFault records (RoomFault.Damaged at found) = HasBadRecord records false at found
+IsFault records (RoomFault.DamagedSide at found) = HasBadRecord records true at found
 IsFault records RoomFault.Memory = Unit {0}
 
 -- the machine stands for the list of these records

@@ -3,18 +3,18 @@ use Rattle.std.specs.Prelude.{Bool, true, false, Result, Ok, Err}
 use Rattle.news_types.specs.declared.query.Answer.{Answer as Told}
 use Rattle.news_types.specs.Outcome.{Done, Repeat, Denied}
 use Rattle.news_types.specs.Calls.{Answer, Replied, Kept, Still, Tells, Full, Fault, Memory}
-use Rattle.news_room.specs.declared.answers.Answered.{Answered}
+use Rattle.news_room.specs.declared.answers.Handled.{Handled}
 use Rattle.news_room.specs.declared.answers.Kept as kept
 use Rattle.news_room.specs.declared.answers.Ticked.{Ticked}
 
 -- to a request or an ingest
-abbrev pub said : Answered → Answer
-said (Answered.Done reply) = Replied (Done reply)
-said (Answered.Repeat reply) = Replied (Repeat reply)
-said (Answered.Denied denial) = Replied (Denied denial)
-said Answered.Fault = Fault
-said (Answered.Full size count) = Full
-said Answered.Memory = Memory
+abbrev pub said : Handled → Answer
+said (Handled.Done reply) = Replied (Done reply)
+said (Handled.Repeat reply) = Replied (Repeat reply)
+said (Handled.Denied denial) = Replied (Denied denial)
+said Handled.Fault = Fault
+said (Handled.Full size count) = Full
+said Handled.Memory = Memory
 
 -- to a receipt
 abbrev pub said_kept : kept.Kept → Answer

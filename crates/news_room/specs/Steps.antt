@@ -22,7 +22,7 @@ use Rattle.news_room.specs.Beside.{Beside}
 use Rattle.news_room.specs.Said.{said, said_kept, said_tick, is_failure}
 use Rattle.news_room.specs.Stands.{Stands, LIMIT, LAST, numbers, in_doubt}
 use Rattle.news_io.specs.declared.keeper.AppendFault.{AppendFault}
-use Rattle.news_room.specs.declared.answers.Answered.{Answered}
+use Rattle.news_room.specs.declared.answers.Handled.{Handled}
 use Rattle.news_room.specs.declared.answers.Kept.{Kept}
 use Rattle.news_room.specs.declared.answers.Ticked.{Ticked}
 use Rattle.news_room.specs.declared.room.Room.{Room}
@@ -88,31 +88,31 @@ module _ (n : Beside) (limit : ℕ) (e : Entry) (more : List Entry) where
   PutStep (Err (AppendFault.Full size count)) = Refused n limit (e ∷ []) more size count
 
 -- the keeping of an entry that may follow, and was prepared
-abbrev pub KeepStep : Beside → Book → Entry → List Entry → Answered → Type 0
-KeepStep n b e more (Answered.Done reply) = (reply ≡ reply_to b.list e.moment e.act) × Given n LIMIT (e ∷ []) more
-KeepStep n b e more Answered.Fault = Failed n LIMIT (e ∷ []) more
-KeepStep n b e more (Answered.Full size count) = Refused n LIMIT (e ∷ []) more size count
-KeepStep n b e more Answered.Memory = Whole n [] more
+abbrev pub KeepStep : Beside → Book → Entry → List Entry → Handled → Type 0
+KeepStep n b e more (Handled.Done reply) = (reply ≡ reply_to b.list e.moment e.act) × Given n LIMIT (e ∷ []) more
+KeepStep n b e more Handled.Fault = Failed n LIMIT (e ∷ []) more
+KeepStep n b e more (Handled.Full size count) = Refused n LIMIT (e ∷ []) more size count
+KeepStep n b e more Handled.Memory = Whole n [] more
 KeepStep n b e more _ = ⊥
 
 -- ---- requests and ingests
 
 -- an outcome, by what was answered
 module _ (n : Beside) (more : List Entry) (o : Outcome outcome.Answered) where
-  abbrev pub Answers : Answered → Type 0
-  Answers (Answered.Done reply) = (o.answer ≡ Done reply) × Given n LIMIT (entries o.more) more
-  Answers (Answered.Repeat reply) = (o.answer ≡ Repeat reply) × Given n LIMIT (entries o.more) more
-  Answers (Answered.Denied denial) = (o.answer ≡ Denied denial) × Given n LIMIT (entries o.more) more
-  Answers Answered.Fault = Failed n LIMIT (entries o.more) more
-  Answers (Answered.Full size count) = Refused n LIMIT (entries o.more) more size count
-  Answers Answered.Memory = Whole n [] more
+  abbrev pub Answers : Handled → Type 0
+  Answers (Handled.Done reply) = (o.answer ≡ Done reply) × Given n LIMIT (entries o.more) more
+  Answers (Handled.Repeat reply) = (o.answer ≡ Repeat reply) × Given n LIMIT (entries o.more) more
+  Answers (Handled.Denied denial) = (o.answer ≡ Denied denial) × Given n LIMIT (entries o.more) more
+  Answers Handled.Fault = Failed n LIMIT (entries o.more) more
+  Answers (Handled.Full size count) = Refused n LIMIT (entries o.more) more size count
+  Answers Handled.Memory = Whole n [] more
 
 -- a request of a caller at a reading of the clock
-abbrev pub RequestStep : Beside → Book → ℕ → Bytes → ℕ → Command → List Entry → Answered → Type 0
+abbrev pub RequestStep : Beside → Book → ℕ → Bytes → ℕ → Command → List Entry → Handled → Type 0
 RequestStep n b now caller number command more answered = Answers n more (request b.list caller number command now) answered
 
 -- a story that comes in from a provider
-abbrev pub IngestStep : Beside → Book → ℕ → Bytes → Incoming → List Entry → Answered → Type 0
+abbrev pub IngestStep : Beside → Book → ℕ → Bytes → Incoming → List Entry → Handled → Type 0
 IngestStep n b now provider come more answered = Answers n more (ingest b.list provider come now) answered
 
 -- ---- receipts
@@ -188,7 +188,7 @@ module _ {K : Type 0} (keeper : KeeperMeaning K) where
     pub doubt : DoubtStep (keeper.doubts old.keeper) (keeper.doubts new.keeper) should more failed
 
 -- the answers that a failure of the keeper has
-abbrev pub is_fault : Answered → Bool
+abbrev pub is_fault : Handled → Bool
 is_fault answered = is_failure (said answered)
 
 abbrev pub is_kept_fault : Kept → Bool

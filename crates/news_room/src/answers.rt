@@ -3,7 +3,7 @@ use news_types::{Denial, Reply};
 
 /// What a request is answered.
 #[derive(Drop)]
-pub enum Answered {
+pub enum Handled {
     /// It is kept, with this reply.
     Done(Reply),
     /// It is the caller's last request once more, with the reply that was given: nothing is kept.

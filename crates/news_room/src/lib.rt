@@ -12,7 +12,7 @@ mod laws;
 mod opening;
 mod room;
 
-pub use answers::{Answered, Kept, RoomFault, Ticked};
+pub use answers::{Handled, Kept, RoomFault, Ticked};
 pub use claim::Claimed;
 pub use laws::completeness_law;
 pub use room::Room;

@@ -67,9 +67,9 @@ fn take(machine: &mut Newsroom, alloc: Global, here: &Record) -> Result<(), Room
 {
     match decode(alloc, here.bytes.as_slice()) {
         Ok(entry) => {
-            let kept = keep(machine, here, &entry);
+            let replayed = replay(machine, here, &entry);
             drop(entry);
-            kept
+            replayed
         }
         Err(CodecFault::At { at }) => Err(no_entry(here, at)),
         Err(CodecFault::Memory) => Err(RoomFault::Memory),
@@ -97,7 +97,7 @@ fn no_entry(here: &Record, place: u64) -> RoomFault
 }
 
 // Keeps the entry of a record, where it may follow.
-fn keep(machine: &mut Newsroom, here: &Record, entry: &Entry) -> Result<(), RoomFault>
+fn replay(machine: &mut Newsroom, here: &Record, entry: &Entry) -> Result<(), RoomFault>
     requires stands { (h : History) × (StandsFor machine.old h × (length h < 2147483648)) }
     requires early { entry.now.moment < 253402300800 }
     ensures keeps { (h : History) → StandsFor machine.old h → Keeps machine.new h here.now entry.now result }

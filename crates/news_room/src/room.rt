@@ -9,7 +9,7 @@ ghost use Rattle.news_types.specs.Answers.{query_answer};
 ghost use Rattle.news_types.specs.Frames.{frame_bytes_at};
 ghost use Rattle.feed_frames.specs.Writer.{the_writer};
 
-use crate::answers::Answered;
+use crate::answers::Handled;
 use entry_codec::encode;
 use news_io::{AppendFault, Keeper};
 use news_types::{Act, Answer, Command, Entry, Incoming, Memory, Moment, Name, Query, StandsFor};
@@ -79,23 +79,23 @@ impl<K: Keeper> Room<K> {
     }
 
     // Gives the record of an entry to the keeper.
-    fn append(&mut self, entry: &Entry) -> Result<(), Answered>
+    fn append(&mut self, entry: &Entry) -> Result<(), Handled>
         requires fits { Fits entry.now }
         ensures step { AppendStep K.keeper self.old.keeper self.new.keeper entry.now result }
         ensures machine { self.new.machine ≡ self.old.machine }
     {
         let Ok(bytes) = encode(self.alloc, entry) else {
-            return Err(Answered::Memory);
+            return Err(Handled::Memory);
         };
         match self.keeper.append(bytes.as_slice(), LIMIT) {
             Ok(()) => Ok(()),
-            Err(AppendFault::Fault) => Err(Answered::Fault),
-            Err(AppendFault::Full { size, length }) => Err(Answered::Full { size, length }),
+            Err(AppendFault::Fault) => Err(Handled::Fault),
+            Err(AppendFault::Full { size, length }) => Err(Handled::Full { size, length }),
         }
     }
 
     // Keeps what was prepared: the keeper first, and then the machine.
-    fn keep(&mut self, change: Change, entry: &Entry) -> Answered
+    fn keep(&mut self, change: Change, entry: &Entry) -> Handled
         requires stands { (b : Book) × (Stands K.keeper self.old b × IsFor change entry.now b.list) }
         requires memory { HasMemory self.old.machine change }
         requires fits { Fits entry.now }
@@ -104,7 +104,7 @@ impl<K: Keeper> Room<K> {
             (KeepStep (numbers K.keeper self.old self.new) b entry.now more result)) }
     {
         match self.append(entry) {
-            Ok(()) => Answered::Done(self.machine.commit(change)),
+            Ok(()) => Handled::Done(self.machine.commit(change)),
             Err(answered) => {
                 drop(change);
                 answered
@@ -113,7 +113,7 @@ impl<K: Keeper> Room<K> {
     }
 
     // Decides a request or an ingest, and keeps its entry where it is accepted.
-    fn decide(&mut self, entry: &Entry) -> Answered
+    fn decide(&mut self, entry: &Entry) -> Handled
         requires stands { (b : Book) × (Stands K.keeper self.old b × (moment b.list ≤ entry.now.moment)) }
         requires given { IsSmall entry.now.act → ⊥ }
         requires fits { Fits entry.now }
@@ -123,10 +123,10 @@ impl<K: Keeper> Room<K> {
     {
         match self.machine.prepare(&entry.act, entry.moment) {
             Prepared::Change(change) => self.keep(change, entry),
-            Prepared::Settled(reply) => Answered::Done(reply),
-            Prepared::Repeat(reply) => Answered::Repeat(reply),
-            Prepared::Denied(denial) => Answered::Denied(denial),
-            Prepared::Memory => Answered::Memory,
+            Prepared::Settled(reply) => Handled::Done(reply),
+            Prepared::Repeat(reply) => Handled::Repeat(reply),
+            Prepared::Denied(denial) => Handled::Denied(denial),
+            Prepared::Memory => Handled::Memory,
         }
     }
 
@@ -134,7 +134,7 @@ impl<K: Keeper> Room<K> {
     ///
     /// What it is answered, and whether its entry is kept, are those of the list; an entry counts only once the keeper
     /// has taken it. A failure of the keeper and want of memory leave the list as it was.
-    pub fn request(&mut self, now: u64, caller: Name, number: u64, command: Command) -> Answered
+    pub fn request(&mut self, now: u64, caller: Name, number: u64, command: Command) -> Handled
         requires stands { SomeBook K.keeper self.old }
         requires fits { FitsCommand command }
         ensures { (more : List Entry) × ((b : Book) → Stands K.keeper self.old b
@@ -157,7 +157,7 @@ impl<K: Keeper> Room<K> {
     /// Takes a story that comes in from a provider, at a reading of the clock, in seconds.
     ///
     /// It is answered and kept as a request is. A story that is known already is done, and keeps no entry.
-    pub fn ingest(&mut self, now: u64, provider: Name, incoming: Incoming) -> Answered
+    pub fn ingest(&mut self, now: u64, provider: Name, incoming: Incoming) -> Handled
         requires stands { SomeBook K.keeper self.old }
         requires fits { FitsIncoming incoming }
         ensures { (more : List Entry) × ((b : Book) → Stands K.keeper self.old b

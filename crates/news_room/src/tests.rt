@@ -11,7 +11,7 @@ mod faults;
 mod ingests;
 mod requests;
 
-use crate::{Answered, Claimed, Kept, Room, Ticked};
+use crate::{Claimed, Handled, Kept, Room, Ticked};
 use entry_codec::decode;
 use news_io::{Keeper, MemoryKeeper};
 use news_types::{
@@ -55,14 +55,14 @@ fn tell_denial(denial: Denial) -> Told {
     }
 }
 
-fn tell(answered: Answered) -> Told {
+fn tell(answered: Handled) -> Told {
     match answered {
-        Answered::Done(reply) => Told::Done(reply),
-        Answered::Repeat(reply) => Told::Repeat(reply),
-        Answered::Denied(denial) => tell_denial(denial),
-        Answered::Fault => Told::Fault,
-        Answered::Full { size, length } => Told::Full { size, length },
-        Answered::Memory => Told::Other,
+        Handled::Done(reply) => Told::Done(reply),
+        Handled::Repeat(reply) => Told::Repeat(reply),
+        Handled::Denied(denial) => tell_denial(denial),
+        Handled::Fault => Told::Fault,
+        Handled::Full { size, length } => Told::Full { size, length },
+        Handled::Memory => Told::Other,
     }
 }
 

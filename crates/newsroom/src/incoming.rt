@@ -171,7 +171,7 @@ impl Newsroom {
         keep_place(&mut self.rules, place);
         self.entries += 1;
         self.moment = parts.moment();
-        self.stories.keep(parts)
+        self.stories.commit(parts)
     }
 }
 

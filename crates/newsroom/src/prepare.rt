@@ -165,7 +165,7 @@ impl Newsroom {
         self.entries += 1;
         self.last_stop = stop_behind(self.last_stop, stops, self.entries);
         self.moment = parts.moment();
-        self.stories.keep(parts)
+        self.stories.commit(parts)
     }
 }
 

@@ -18,7 +18,7 @@ use Rattle.news_pair.specs.Law.{opened_begins, opened_long, length-side, opens_o
 use Rattle.news_pair.proofs.Undamaged.{undamaged, packable}
 use Rattle.news_pair.proofs.WereRead.{six_bytes, one_store}
 use Rattle.news_room.specs.Log.{IsStored}
-use Rattle.news_room.specs.Opening.{bytes_of, IsDamaged}
+use Rattle.news_room.specs.Opening.{bytes_of, HasBadRecord}
 use Rattle.news_room.proofs.Lists.{same_list, same_entry}
 use Rattle.store_files.specs.Kinds.{IsReceivers, IsOfStore, IsOtherLog, side_form, IsOtherSide, IsOther}
 use Rattle.news_pair.specs.Placed.{pair_records}
@@ -94,7 +94,7 @@ module _ (log side : List ℕ) (store : Bytes) (h : History) (long : length stor
       let same = one_store log store' store opens.tail o.pair.tail long' long opens.log_is o.pair.log_is in
       opens_one store log side (doubt.payloads entry_bytes h) (payloads rs) o.pair (subst (λ (s : Bytes). PairOpens s log side (payloads rs)) same opens)
 
-  no_damage : (rs : List Record) (in_side : Bool) (at : ℕ) (found : Option ℕ) → doubt.payloads entry_bytes h ≡ payloads rs → IsDamaged rs in_side at found → ⊥
+  no_damage : (rs : List Record) (in_side : Bool) (at : ℕ) (found : Option ℕ) → doubt.payloads entry_bytes h ≡ payloads rs → HasBadRecord rs in_side at found → ⊥
   no_damage rs in_side at found are d =
       let m = member h (map bytes_of d.before) d.here.bytes (payloads d.after) o.kept (are ∙ ap payloads d.are ∙ split_records d.before d.here d.after) in
       elim d.damage [

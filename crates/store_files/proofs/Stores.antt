@@ -26,7 +26,7 @@ use Rattle.news_pair.specs.declared.fault.PairFault.{PairFault}
 use Rattle.news_pair.specs.declared.fault.PairFault.TheVariants as pair_fault
 use Rattle.news_pair.specs.declared.opening.OpenedPair.{OpenedPair}
 use Rattle.news_room.specs.Log.{sizes}
-use Rattle.news_room.specs.Opening.{IsFault, IsDamaged, IsOpened}
+use Rattle.news_room.specs.Opening.{IsFault, HasBadRecord, IsOpened}
 use Rattle.news_room.specs.declared.answers.RoomFault.{RoomFault}
 use Rattle.news_room.specs.declared.answers.RoomFault.TheVariants as room_fault
 use Rattle.news_room.specs.declared.room.Room.{Room}
@@ -63,9 +63,9 @@ same_store u v is = cc
 no_room_cause : (h : Header) (rs : List Record) (log side : List ℕ) (t : Trouble) → rs ≡ pair_records log side → OpensAs h rs log side → pair_damage log side ≡ None → (IsOther log side → ⊥) → IsNoRoom h rs t → Cause log side t
 no_room_cause (header.Receiver name) rs log side t are opens whole other is = absurd opens
 no_room_cause (header.Room store) rs log side (trouble.Damaged at found) are opens whole other d =
-    (inr (record { whole = whole; store = store; long = d.0; pair = subst (λ (l : List Record). PairOpens store log side (payloads l)) are opens; damage = subst (λ (l : List Record). IsDamaged l false at found) are d.1 }), other)
+    (inr (record { whole = whole; store = store; long = d.0; pair = subst (λ (l : List Record). PairOpens store log side (payloads l)) are opens; damage = subst (λ (l : List Record). HasBadRecord l false at found) are d.1 }), other)
 no_room_cause (header.Room store) rs log side (trouble.DamagedSide at found) are opens whole other d =
-    (inr (record { whole = whole; store = store; long = d.0; pair = subst (λ (l : List Record). PairOpens store log side (payloads l)) are opens; damage = subst (λ (l : List Record). IsDamaged l true at found) are d.1 }), other)
+    (inr (record { whole = whole; store = store; long = d.0; pair = subst (λ (l : List Record). PairOpens store log side (payloads l)) are opens; damage = subst (λ (l : List Record). HasBadRecord l true at found) are d.1 }), other)
 no_room_cause (header.Room store) rs log side trouble.Memory are opens whole other d = tt
 no_room_cause (header.Room store) rs log side trouble.WrongStore are opens whole other d = absurd d
 no_room_cause (header.Room store) rs log side trouble.Store are opens whole other d = absurd d
@@ -162,9 +162,9 @@ module _ {D : Type 0} (disk : DiskMeaning D) where
     side_count trouble.Full count = omega (arith, calm, count)
     side_count trouble.Memory count = omega (arith, calm, count)
 
-    pub side_refused : (r : Option Trouble) → (disk.tells side → IfSome r (SideCause store (disk.seen side))) → IfSome r (TroubleCounts (disk.faults side) (disk.faults side')) → IfSome r (IsRefused disk log side log' side')
-    side_refused None cause count = tt
-    side_refused (Some t) cause count = kind_refused log side log' side' t (side_cause t cause) (side_count t count) still still'
+    pub side_refused : (r : Result (Unit {0}) Trouble) → (disk.tells side → IfErr r (SideCause store (disk.seen side))) → IfErr r (TroubleCounts (disk.faults side) (disk.faults side')) → IfErr r (IsRefused disk log side log' side')
+    side_refused (Ok u) cause count = tt
+    side_refused (Err t) cause count = kind_refused log side log' side' t (side_cause t cause) (side_count t count) still still'
 
   -- behind calls that changed nothing
   module _ (log mid side mid' : D) (still : Same log mid) (still' : Same side mid') (calm : disk.faults mid + disk.faults mid' ≡ disk.faults log + disk.faults side) where

@@ -20,7 +20,7 @@ use Rattle.news_pair.specs.Opened.{OpensStill}
 use Rattle.news_pair.specs.Stands.{log_disk, side_disk}
 use Rattle.news_pair.specs.Keeper.{pair_of}
 use Rattle.news_room.specs.Log.{IsStored}
-use Rattle.news_room.specs.Opening.{IsDamaged}
+use Rattle.news_room.specs.Opening.{HasBadRecord}
 use Rattle.news_room.specs.Opening as room
 use Rattle.news_room.specs.declared.room.Room.{Room}
 use Rattle.store_files.specs.Holds.{Holds}
@@ -39,7 +39,7 @@ pub record HasNoList (log side : List ℕ) (in_side : Bool) (at : ℕ) (found : 
   pub store : Bytes
   pub long : length store ≡ 16
   pub pair : PairOpens store log side (payloads (pair_records log side))
-  pub damage : IsDamaged (pair_records log side) in_side at found
+  pub damage : HasBadRecord (pair_records log side) in_side at found
 
 -- what the bytes say to each trouble; only packing finds a full side
 abbrev pub Cause : List ℕ → List ℕ → Trouble → Type 0
@@ -71,8 +71,8 @@ SideCause store side _ = ⊥
 -- why a pair that was opened is no newsroom's: an entry may not follow; a receiver's log is no pair
 abbrev pub IsNoRoom : Header → List Record → Trouble → Type 0
 IsNoRoom (header.Receiver name) records t = t ≡ trouble.WrongStore
-IsNoRoom (header.Room store) records (trouble.Damaged at found) = (length store ≡ 16) × IsDamaged records false at found
-IsNoRoom (header.Room store) records (trouble.DamagedSide at found) = (length store ≡ 16) × IsDamaged records true at found
+IsNoRoom (header.Room store) records (trouble.Damaged at found) = (length store ≡ 16) × HasBadRecord records false at found
+IsNoRoom (header.Room store) records (trouble.DamagedSide at found) = (length store ≡ 16) × HasBadRecord records true at found
 IsNoRoom (header.Room store) records trouble.Memory = Unit {0}
 IsNoRoom (header.Room store) records _ = ⊥
 

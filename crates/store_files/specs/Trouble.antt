@@ -1,5 +1,8 @@
--- Why a log and its side do not serve, with the status and its line.
-use Rattle.std.specs.Prelude.{ℕ, List, ◌++◌, codes, decimal, Option, Some, None}
+-- Why a log and its side do not serve, with its status.
+use Rattle.run_status.specs.declared.status.Status.{Status}
+use Rattle.run_status.specs.declared.status.Status.TheVariants as status
+use Rattle.news_journal.specs.declared.log.OpenFault.{OpenFault}
+use Rattle.news_journal.specs.declared.log.OpenFault.TheVariants as file
 use Rattle.news_pair.specs.declared.fault.PairFault.{PairFault}
 use Rattle.news_pair.specs.declared.fault.PairFault.TheVariants as pair
 use Rattle.news_pair.specs.declared.pack_fault.PackFault.{PackFault}
@@ -9,33 +12,21 @@ use Rattle.news_room.specs.declared.answers.RoomFault.TheVariants as room
 use Rattle.store_files.specs.declared.trouble.Trouble.{Trouble}
 use Rattle.store_files.specs.declared.trouble.Trouble.TheVariants as trouble
 
-abbrev pub status_of : Trouble → ℕ
-status_of trouble.WrongStore = 3
-status_of trouble.Store = 6
-status_of (trouble.Damaged at found) = 7
-status_of (trouble.DamagedSide at found) = 7
-status_of trouble.Full = 8
-status_of trouble.Memory = 9
+-- the status that tells it
+abbrev pub status_of : Trouble → Status
+status_of trouble.WrongStore = status.WrongStore
+status_of trouble.Store = status.Store
+status_of (trouble.Damaged at found) = status.Damaged at found
+status_of (trouble.DamagedSide at found) = status.DamagedSide at found
+status_of trouble.Full = status.Full
+status_of trouble.Memory = status.Memory
 
--- a byte, or nothing where there is none
-abbrev pub byte_or_null : Option ℕ → List ℕ
-byte_or_null None = codes "null"
-byte_or_null (Some byte) = decimal byte
+-- ---- what it comes from: a file that could not be read, two files that are no pair, entries that may not follow, a pair that is not packed
 
--- a place in a file, and the byte there
-abbrev pub place_of : ℕ → Option ℕ → List ℕ
-place_of at found = codes "{\"at\":" ++ decimal at ++ codes ",\"found\":" ++ byte_or_null found
-
--- the line that is written before the end
-abbrev pub line_of : Trouble → List ℕ
-line_of trouble.WrongStore = codes "{\"status\":3}\n"
-line_of trouble.Store = codes "{\"status\":6}\n"
-line_of (trouble.Damaged at found) = place_of at found ++ codes ",\"status\":7}\n"
-line_of (trouble.DamagedSide at found) = place_of at found ++ codes ",\"side\":true,\"status\":7}\n"
-line_of trouble.Full = codes "{\"status\":8}\n"
-line_of trouble.Memory = codes "{\"status\":9}\n"
-
--- ---- what it comes from: two files that are no pair, entries that may not follow, a pair that is not packed
+abbrev pub trouble_of_file : OpenFault → Trouble
+trouble_of_file file.DiskFault = trouble.Store
+trouble_of_file (file.Damaged at found) = trouble.Damaged at found
+trouble_of_file file.Memory = trouble.Memory
 
 abbrev pub trouble_of_pair : PairFault → Trouble
 trouble_of_pair pair.DiskFault = trouble.Store

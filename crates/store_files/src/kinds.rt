@@ -27,10 +27,7 @@ pub fn is_empty<D: Disk>(file: &mut D) -> Result<bool, Failed>
     ensures still { Still D.disk file.old file.new }
     ensures count { Counts (D.disk.faults file.old) (D.disk.faults file.new) result }
 {
-    match file.size() {
-        Ok(length) => Ok(length == 0),
-        Err(failed) => Err(failed),
-    }
+    Ok(file.size()? == 0)
 }
 
 /// What a log is for.
@@ -39,11 +36,10 @@ pub(crate) fn log_kind<D: Disk>(log: &mut D) -> Result<LogKind, Failed>
     ensures still { Still D.disk log.old log.new }
     ensures count { Counts (D.disk.faults log.old) (D.disk.faults log.new) result }
 {
-    match is_empty(log) {
-        Ok(true) => Ok(LogKind::Other),
-        Ok(false) => header_kind(log),
-        Err(failed) => Err(failed),
+    if is_empty(log)? {
+        return Ok(LogKind::Other);
     }
+    header_kind(log)
 }
 
 /// What a log with this header is for.
@@ -62,10 +58,9 @@ fn header_kind<D: Disk>(log: &mut D) -> Result<LogKind, Failed>
     ensures still { Still D.disk log.old log.new }
     ensures count { Counts (D.disk.faults log.old) (D.disk.faults log.new) result }
 {
-    match Header::read_from(log) {
-        Ok(Some(header)) => Ok(kind_of(header)),
-        Ok(None) => Ok(LogKind::Unknown),
-        Err(failed) => Err(failed),
+    match Header::read_from(log)? {
+        Some(header) => Ok(kind_of(header)),
+        None => Ok(LogKind::Unknown),
     }
 }
 
@@ -116,10 +111,8 @@ fn reads_other_header<D: Disk>(alloc: Global, side: &mut D, store: &Uuid) -> Res
     ensures calm { OnOk result (D.disk.faults side.new ≡ D.disk.faults side.old) }
 {
     let mut window = Window::new(alloc);
-    match window.cover(side, 0, 65) {
-        Ok(()) => Ok(has_other_header(window.part(0, 65), store)),
-        Err(fault) => Err(fault),
-    }
+    window.cover(side, 0, 65)?;
+    Ok(has_other_header(window.part(0, 65), store))
 }
 
 /// Whether a file has no room for a header and a gate.
@@ -128,10 +121,7 @@ fn is_short<D: Disk>(file: &mut D) -> Result<bool, Failed>
     ensures still { Still D.disk file.old file.new }
     ensures count { Counts (D.disk.faults file.old) (D.disk.faults file.new) result }
 {
-    match file.size() {
-        Ok(length) => Ok(length < 65),
-        Err(failed) => Err(failed),
-    }
+    Ok(file.size()? < 65)
 }
 
 /// Whether a side is of another kind or of another store. A short one is not read.
@@ -146,9 +136,8 @@ pub(crate) fn is_other_side<D: Disk>(
     ensures fault { IfErr result (FaultCounts (D.disk.faults side.old) (D.disk.faults side.new)) }
     ensures calm { OnOk result (D.disk.faults side.new ≡ D.disk.faults side.old) }
 {
-    match is_short(side) {
-        Ok(true) => Ok(false),
-        Ok(false) => reads_other_header(alloc, side, store),
-        Err(_) => Err(OpenFault::DiskFault),
+    if is_short(side)? {
+        return Ok(false);
     }
+    reads_other_header(alloc, side, store)
 }

@@ -1,5 +1,5 @@
 //! A log and its side are opened as a room.
-ghost use Rattle.std.specs.Prelude.{◌≡◌, ◌+◌, IfOk, IfErr, IfSome, None};
+ghost use Rattle.std.specs.Prelude.{◌≡◌, ◌+◌, IfOk, IfErr, OnOk};
 ghost use Rattle.news_journal.specs.Opened.{Still, AreFew};
 ghost use Rattle.news_pair.specs.Damage.{pair_damage};
 ghost use Rattle.news_pair.specs.Stands.{log_disk, side_disk};
@@ -9,7 +9,7 @@ ghost use Rattle.store_files.specs.Store.{IsRefused, IsOpenRoom, IsRoomOf, IsNoR
 use crate::kinds::{LogKind, is_other_side, log_kind};
 use crate::trouble::Trouble;
 use news_io::{Disk, Keeper};
-use news_journal::{Header, OpenFault};
+use news_journal::Header;
 use news_pair::{OpenedPair, Pair};
 use news_room::Room;
 use std::alloc::Global;
@@ -25,45 +25,38 @@ pub fn open_room<D: Disk>(
     ensures opened { IfOk result (IsOpenRoom D.disk log side) }
     ensures refused { IfErr result (λ e. IsRefused D.disk log side e.0 e.1 e.2) }
 {
-    match kind_trouble(alloc, &mut log, &mut side) {
-        Some(trouble) => Err((log, side, trouble)),
-        None => open_pair(alloc, log, side),
+    match refuse_other_kinds(alloc, &mut log, &mut side) {
+        Ok(()) => open_pair(alloc, log, side),
+        Err(trouble) => Err((log, side, trouble)),
     }
 }
 
-/// Why a side is not that of a store, by its header alone.
-fn side_trouble<D: Disk>(alloc: Global, side: &mut D, store: &Uuid) -> Option<Trouble>
-    ensures cause { D.disk.tells side.old → IfSome result (SideCause store.now (D.disk.seen side.old)) }
-    ensures none { result ≡ None → D.disk.tells side.old → IsOtherSide store.now (D.disk.seen side.old) → ⊥ }
-    ensures count { IfSome result (TroubleCounts (D.disk.faults side.old) (D.disk.faults side.new)) }
-    ensures calm { result ≡ None → D.disk.faults side.new ≡ D.disk.faults side.old }
+/// Refuses a side that is not that of a store, by its header alone.
+fn refuse_other_side<D: Disk>(alloc: Global, side: &mut D, store: &Uuid) -> Result<(), Trouble>
+    ensures cause { D.disk.tells side.old → IfErr result (SideCause store.now (D.disk.seen side.old)) }
+    ensures own { D.disk.tells side.old → OnOk result (IsOtherSide store.now (D.disk.seen side.old) → ⊥) }
+    ensures count { IfErr result (TroubleCounts (D.disk.faults side.old) (D.disk.faults side.new)) }
+    ensures calm { OnOk result (D.disk.faults side.new ≡ D.disk.faults side.old) }
     ensures still { Still D.disk side.old side.new }
 {
-    match is_other_side(alloc, side, store) {
-        Ok(true) => Some(Trouble::WrongStore),
-        Ok(false) => None,
-        Err(OpenFault::DiskFault) => Some(Trouble::Store),
-        Err(OpenFault::Memory) => Some(Trouble::Memory),
-        Err(OpenFault::Damaged { .. }) => unreachable!(),
+    if is_other_side(alloc, side, store)? {
+        return Err(Trouble::WrongStore);
     }
+    Ok(())
 }
 
-/// Why a log and its side are not those of a newsroom, by the log's length and their headers alone.
-fn kind_trouble<D: Disk>(alloc: Global, log: &mut D, side: &mut D) -> Option<Trouble>
-    ensures some { IfSome result (IsRefused D.disk log.old side.old log.new side.new) }
-    ensures none { result ≡ None → D.disk.tells log.old → D.disk.tells side.old → IsOther (D.disk.seen log.old) (D.disk.seen side.old) → ⊥ }
-    ensures calm { result ≡ None → D.disk.faults log.new + D.disk.faults side.new ≡ D.disk.faults log.old + D.disk.faults side.old }
+/// Refuses a log and its side that are not those of a newsroom, by the log's length and their headers alone.
+fn refuse_other_kinds<D: Disk>(alloc: Global, log: &mut D, side: &mut D) -> Result<(), Trouble>
+    ensures refused { IfErr result (IsRefused D.disk log.old side.old log.new side.new) }
+    ensures own { D.disk.tells log.old → D.disk.tells side.old → OnOk result (IsOther (D.disk.seen log.old) (D.disk.seen side.old) → ⊥) }
+    ensures calm { OnOk result (D.disk.faults log.new + D.disk.faults side.new ≡ D.disk.faults log.old + D.disk.faults side.old) }
     ensures still { Still D.disk log.old log.new }
     ensures still_side { Still D.disk side.old side.new }
 {
-    let kind = match log_kind(log) {
-        Ok(kind) => kind,
-        Err(_) => return Some(Trouble::Store),
-    };
-    match kind {
-        LogKind::Other => Some(Trouble::WrongStore),
-        LogKind::Room(store) => side_trouble(alloc, side, &store),
-        LogKind::Unknown => None,
+    match log_kind(log)? {
+        LogKind::Other => Err(Trouble::WrongStore),
+        LogKind::Room(store) => refuse_other_side(alloc, side, &store),
+        LogKind::Unknown => Ok(()),
     }
 }
 

@@ -1,11 +1,13 @@
 //! Why a log and its side do not serve.
-ghost use Rattle.std.specs.Prelude.{◌≡◌, ◌≤◌, ◌+◌, ◌++◌, ◌<◌, length, decimal};
-ghost use Rattle.store_files.specs.Trouble.{status_of, line_of, place_of, byte_or_null, trouble_of_pair, trouble_of_room, trouble_of_pack};
+ghost use Rattle.std.specs.Prelude.{◌≡◌};
+ghost use Rattle.store_files.specs.declared.trouble.Trouble.TheVariants.{Store};
+ghost use Rattle.store_files.specs.Trouble.{status_of, trouble_of_file, trouble_of_pair, trouble_of_room, trouble_of_pack};
 
-use byte_formats::SmallBytes;
-use itoa::Buffer;
+use news_io::Failed;
+use news_journal::OpenFault;
 use news_pair::{PackFault, PairFault};
 use news_room::RoomFault;
+use run_status::Status;
 
 /// Why a log and its side do not serve.
 #[derive(Clone, Copy, Debug, PartialEq, Eq)]
@@ -33,6 +35,27 @@ pub enum Trouble {
     Full,
     /// There was no memory.
     Memory,
+}
+
+impl From<Failed> for Trouble {
+    ghost from_gives = { λ _ trouble. trouble ≡ Store };
+
+    fn from(_: Failed) -> Self {
+        Trouble::Store
+    }
+}
+
+/// A file that could not be read.
+impl From<OpenFault> for Trouble {
+    ghost from_gives = { λ fault trouble. trouble ≡ trouble_of_file fault };
+
+    fn from(fault: OpenFault) -> Self {
+        match fault {
+            OpenFault::DiskFault => Trouble::Store,
+            OpenFault::Damaged { at, found } => Trouble::Damaged { at, found },
+            OpenFault::Memory => Trouble::Memory,
+        }
+    }
 }
 
 /// Two files that are no pair.
@@ -76,73 +99,17 @@ impl From<PackFault> for Trouble {
     }
 }
 
-/// The longest line: the words, and two numbers.
-const LINE: usize = 80;
+impl From<Trouble> for Status {
+    ghost from_gives = { λ trouble status. status ≡ status_of trouble };
 
-fn push_number(line: &mut SmallBytes<LINE>, number: u64)
-    requires { length line.old + 20 ≤ 80 }
-    ensures bytes { line.new ≡ line.old ++ decimal number }
-    ensures few { length line.new ≤ length line.old + 20 }
-{
-    let mut digits = Buffer::new();
-    line.push_slice(digits.format(number).as_bytes());
-}
-
-fn push_byte_or_null(line: &mut SmallBytes<LINE>, byte: Option<u8>)
-    requires { length line.old + 20 ≤ 80 }
-    ensures bytes { line.new ≡ line.old ++ byte_or_null byte }
-    ensures few { length line.new ≤ length line.old + 20 }
-{
-    match byte {
-        Some(byte) => push_number(line, byte as u64),
-        None => line.push_slice(b"null"),
-    }
-}
-
-fn push_place(line: &mut SmallBytes<LINE>, at: u64, found: Option<u8>)
-    requires { length line.old + 55 ≤ 80 }
-    ensures bytes { line.new ≡ line.old ++ place_of at found }
-    ensures few { length line.new ≤ length line.old + 55 }
-{
-    line.push_slice(b"{\"at\":");
-    push_number(line, at);
-    line.push_slice(b",\"found\":");
-    push_byte_or_null(line, found);
-}
-
-impl Trouble {
-    /// The exit status.
-    pub fn status(self) -> u8
-        ensures { result ≡ status_of self }
-    {
-        match self {
-            Trouble::WrongStore => 3,
-            Trouble::Store => 6,
-            Trouble::Damaged { .. } | Trouble::DamagedSide { .. } => 7,
-            Trouble::Full => 8,
-            Trouble::Memory => 9,
+    fn from(trouble: Trouble) -> Self {
+        match trouble {
+            Trouble::WrongStore => Status::WrongStore,
+            Trouble::Store => Status::Store,
+            Trouble::Damaged { at, found } => Status::Damaged { at, found },
+            Trouble::DamagedSide { at, found } => Status::DamagedSide { at, found },
+            Trouble::Full => Status::Full,
+            Trouble::Memory => Status::Memory,
         }
-    }
-
-    /// The line that is written before the end.
-    pub fn line(self) -> SmallBytes<LINE>
-        ensures { result ≡ line_of self }
-    {
-        let mut line: SmallBytes<LINE> = SmallBytes::new();
-        match self {
-            Trouble::WrongStore => line.push_slice(b"{\"status\":3}\n"),
-            Trouble::Store => line.push_slice(b"{\"status\":6}\n"),
-            Trouble::Damaged { at, found } => {
-                push_place(&mut line, at, found);
-                line.push_slice(b",\"status\":7}\n");
-            }
-            Trouble::DamagedSide { at, found } => {
-                push_place(&mut line, at, found);
-                line.push_slice(b",\"side\":true,\"status\":7}\n");
-            }
-            Trouble::Full => line.push_slice(b"{\"status\":8}\n"),
-            Trouble::Memory => line.push_slice(b"{\"status\":9}\n"),
-        }
-        line
     }
 }

@@ -39,7 +39,7 @@ impl Stories {
 
     /// Makes a change, and tells the reply to its entry. It takes no memory. Nothing may have been kept since the change was
     /// prepared.
-    pub fn keep(&mut self, change: Parts) -> Reply
+    pub fn commit(&mut self, change: Parts) -> Reply
         requires room { HasRoom self.old change }
         requires few { (h : History) × (KeepsStories self.old h × (item_count h < 4294967295)) }
         ensures keeps { (h : History) (m : ℕ) (act : Act) → KeepsStories self.old h → last_moment h ≤ m → IsFor change m act h → KeepsStories self.new (entry_of m act ∷ h) }

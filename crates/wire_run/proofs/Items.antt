@@ -12,7 +12,7 @@ use Rattle.line_run.specs.Turns.{AnsweredAll, AnsweredSome, Causes}
 use Rattle.line_run.specs.declared.ending.Ending.{Ending}
 use Rattle.line_run.specs.declared.ending.Ending.TheVariants as end
 use Rattle.line_run.proofs.Runs.{none_yet, none_some, some_of}
-use Rattle.line_run.proofs.Steps.{wrote_none}
+use Rattle.run_status.proofs.Tellings.{wrote_none}
 use Rattle.line_run.proofs.Inputs.{was_read_more, some_end}
 use Rattle.news_io.proofs.Pieces.{first_all}
 use Rattle.ninjs_text.specs.declared.fault.NinjsFault.{NinjsFault}

@@ -12,7 +12,8 @@ use Rattle.line_run.specs.declared.answering.Stopped.{Stopped}
 use Rattle.line_run.specs.declared.answering.Stopped.TheVariants as stop
 use Rattle.line_run.specs.declared.ending.Ending.{Ending}
 use Rattle.line_run.specs.declared.ending.Ending.TheVariants as end
-use Rattle.line_run.proofs.Steps.{kept_same, took_none, wrote_none, stopped_some, answered_all, answered_some}
+use Rattle.line_run.proofs.Steps.{kept_same, took_none, stopped_some, answered_all, answered_some}
+use Rattle.run_status.proofs.Tellings.{wrote_none}
 use Rattle.desk_answers.specs.Answers.{fault_bytes}
 use Rattle.news_types.specs.declared.story.Incoming.{Incoming}
 use Rattle.ninjs_text.specs.declared.fault.NinjsFault.{NinjsFault}

@@ -3,7 +3,7 @@ use Rattle.std.specs.Prelude.{◌≡◌, ℕ, List, [], ◌∷◌, ◌++◌, tak
 use Rattle.std.specs.declared.alloc.Global.{Global}
 use Rattle.news_io.specs.Faults.{Rose}
 use Rattle.news_io.specs.Sink.{AreFirst, SinkMeaning}
-use Rattle.line_run.specs.Life.{Wrote, AllPassed}
+use Rattle.run_status.specs.Output.{Wrote, AllPassed}
 use Rattle.line_run.specs.Turns.{ending_of}
 use Rattle.line_run.specs.declared.answering.Stopped.{Stopped}
 use Rattle.line_run.specs.declared.ending.Ending.{Ending}

@@ -1,6 +1,6 @@
 // The whole input is one item.
 ghost use Rattle.std.specs.Prelude.{◌≡◌, ◌≤◌, ◌<◌, ◌^◌, ◌++◌, [], ℕ, List, length, take, OnOk};
-ghost use Rattle.line_run.specs.Life.{AllPassed};
+ghost use Rattle.run_status.specs.Output.{AllPassed};
 ghost use Rattle.line_run.specs.Run.{Ran, Ends, NotByOutput};
 ghost use Rattle.wire_run.specs.Members.{of_item, one_item, no_item};
 ghost use Rattle.wire_run.specs.Reading.{ENOUGH, IsReadThrough};
@@ -15,7 +15,7 @@ use std::alloc::{AllocError, Global};
 const ENOUGH: usize = 4_194_305;
 
 /// Puts these bytes behind those that are kept, as far as they matter.
-fn keep(kept: &mut Vec<u8>, bytes: &[u8]) -> Result<(), AllocError>
+fn extend_item(kept: &mut Vec<u8>, bytes: &[u8]) -> Result<(), AllocError>
     requires { length kept.old.items ≤ ENOUGH }
     ensures kept { OnOk result (kept.new.items ≡ take ENOUGH (kept.old.items ++ bytes.now)) }
     ensures few { OnOk result (length kept.new.items ≤ ENOUGH) }
@@ -49,7 +49,7 @@ fn read_through<S: Source>(
         if count as u64 > left {
             return Err(Ending::TooLong);
         }
-        if let Err(_) = keep(kept, &piece[..count]) {
+        if let Err(_) = extend_item(kept, &piece[..count]) {
             return Err(Ending::Memory);
         }
         left -= count as u64;

@@ -7,8 +7,8 @@ ghost use Rattle.wire_run.specs.Decided.{decided};
 ghost use Rattle.wire_run.specs.Members.{of_found, of_item, one_item, no_item};
 
 use crate::{Ingesting, answer_item, answer_wire};
-use line_run::{status_line, status_number, tell};
 use news_io::{Sink, Source};
+use run_status::{Status, tell_status};
 use std::alloc::Global;
 
 /// Answers the stories and faults of a wire. The status is 0, or tells what ended the run.
@@ -28,11 +28,8 @@ pub fn run_wire<S: Source, O: Sink, A: Ingesting>(
         → (Rose (A.faults desk.old) (A.faults desk.new) → ⊥) → IsComplete result }
 {
     match answer_wire(alloc, input, output, desk, most) {
-        Ok(()) => 0,
-        Err(why) => {
-            tell(output, status_line(why));
-            status_number(why)
-        }
+        Ok(()) => Status::Done.number(),
+        Err(why) => tell_status(output, Status::from(why)),
     }
 }
 
@@ -53,10 +50,7 @@ pub fn run_item<S: Source, O: Sink, A: Ingesting>(
         → (Rose (A.faults desk.old) (A.faults desk.new) → ⊥) → IsComplete result }
 {
     match answer_item(alloc, input, output, desk, most) {
-        Ok(()) => 0,
-        Err(why) => {
-            tell(output, status_line(why));
-            status_number(why)
-        }
+        Ok(()) => Status::Done.number(),
+        Err(why) => tell_status(output, Status::from(why)),
     }
 }

@@ -1,6 +1,6 @@
 // The stories and faults of a wire are answered as soon as they are decided.
 ghost use Rattle.std.specs.Prelude.{◌≡◌, ◌≤◌, ◌<◌, ◌+◌, ◌^◌, ◌++◌, [], ℕ, List, false, length, OnOk};
-ghost use Rattle.line_run.specs.Life.{AllPassed};
+ghost use Rattle.run_status.specs.Output.{AllPassed};
 ghost use Rattle.line_run.specs.Run.{Ran, ReadsTo, Ends, NotByOutput};
 ghost use Rattle.line_run.specs.Turns.{Did, Causes};
 ghost use Rattle.text7901.specs.Gives.{IsUndecided};

@@ -1,7 +1,8 @@
 use Rattle.std.proofs.Common.{◌≡◌, List, ℕ, ◌++◌, [], ◌∷◌, take, refl, ◌∙◌, ap, arith}
 use Rattle.std.proofs.lemmas.Result.{err_from_is_err_and}
 use Rattle.news_io.proofs.Pieces.{first_all}
-use Rattle.line_run.proofs.Steps.{stopped_some, answered_all, answered_some, wrote_none, wrote_is}
+use Rattle.line_run.proofs.Steps.{stopped_some, answered_all, answered_some}
+use Rattle.run_status.proofs.Tellings.{wrote_none, wrote_is}
 use Rattle.line_run.proofs.loops.answer_line.Goals as goal
 
 pub returns-in_err-text-clause-did : goal.returns-in_err-text-clause-did

@@ -5,8 +5,8 @@ use Rattle.entry_codec.specs.Formed.{IsEntry}
 use Rattle.news_room.proofs.Openings.{no_entry_told, entry_told}
 use Rattle.news_room.proofs.opening.take.Goals as goal
 
-pub keep-kept-requires : goal.keep-kept-requires
-keep-kept-requires c = record { stands = c.requires.stands; early = c.in-Ok.ensures.found.0.fits.moment }
+pub replay-replayed-requires : goal.replay-replayed-requires
+replay-replayed-requires c = record { stands = c.requires.stands; early = c.in-Ok.ensures.found.0.fits.moment }
 
 pub no_entry-requires-clause-at : goal.no_entry-requires-clause-at
 no_entry-requires-clause-at c = c.requires.place
@@ -18,7 +18,7 @@ no_entry-requires-clause-place c =
 
 pub returns-in-Ok-clause-takes : goal.returns-in-Ok-clause-takes
 returns-in-Ok-clause-takes c =
-    λ h is before. entry_told _ h c.args.here.now c.as_slice.result.now c.in-Ok.entry c.keep-kept.result c.as_slice.ensures c.in-Ok.ensures.found.0 c.in-Ok.ensures.found.1 before (c.keep-kept.ensures.keeps h is)
+    λ h is before. entry_told _ h c.args.here.now c.as_slice.result.now c.in-Ok.entry c.replay-replayed.result c.as_slice.ensures c.in-Ok.ensures.found.0 c.in-Ok.ensures.found.1 before (c.replay-replayed.ensures.keeps h is)
 
 pub returns-in-Err-At-clause-takes : goal.returns-in-Err-At-clause-takes
 returns-in-Err-At-clause-takes c =

@@ -49,7 +49,7 @@ pieces-preserved g c =
     record {
       within = omega arith;
       room = omega (arith, c.read_piece.auto.piece, inv.room);
-      short = c.in_default-keep.ensures.few;
-      so_far = part_next _ _ _ _ _ _ _ (take n piece) _ _ inv.so_far c.read_piece.ensures.told c.in-Ok.ensures.bytes (omega (arith, length-take n piece, c.in-Ok.ensures.within.0)) c.in_default-keep.ensures.kept;
+      short = c.in_default-extend_item.ensures.few;
+      so_far = part_next _ _ _ _ _ _ _ (take n piece) _ _ inv.so_far c.read_piece.ensures.told c.in-Ok.ensures.bytes (omega (arith, length-take n piece, c.in-Ok.ensures.within.0)) c.in_default-extend_item.ensures.kept;
       calm = c.in-Ok.ensures.count.calm ∙ inv.calm;
     }

@@ -1,7 +1,7 @@
 use Rattle.std.proofs.Common.{◌++◌, [], subst}
 use Rattle.line_run.specs.declared.ending.Ending.TheVariants as end
 use Rattle.line_run.proofs.Runs.{none_some, some_of}
-use Rattle.line_run.proofs.Steps.{wrote_none}
+use Rattle.run_status.proofs.Tellings.{wrote_none}
 use Rattle.news_io.proofs.Pieces.{first_all}
 use Rattle.text7901.specs.Gives.{IsUndecided}
 use Rattle.wire_run.specs.Members.{of_found}

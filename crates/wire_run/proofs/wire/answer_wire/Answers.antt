@@ -3,7 +3,7 @@ use Rattle.line_run.specs.declared.ending.Ending.TheVariants as end
 use Rattle.line_run.proofs.Inputs.{flushed, some_passed, not_output, ran_nothing, ran_unwritten, ran_begun, last_members, last_stops}
 use Rattle.line_run.proofs.Ended.{ran_passed}
 use Rattle.line_run.proofs.Runs.{none_some, some_of}
-use Rattle.line_run.proofs.Steps.{wrote_none}
+use Rattle.run_status.proofs.Tellings.{wrote_none}
 use Rattle.news_io.proofs.Pieces.{first_all}
 use Rattle.text7901.specs.declared.found.Found.{Found}
 use Rattle.text7901.specs.Gives.{gives}

@@ -18,8 +18,8 @@ returns-clause-pairs g c = λ h pairs some es segment size next.
     let has = has_segments self.store (disk.seen self.side) (disk.may_leave self.side) self.end pairs.side_is some in
     let j = c.at_gate-side.ensures in
     let logs = side_logs disk self.log self.side self.store self.base self.packed self.end h pairs has.0 has.1 c.at_gate-side.result j.disk (j.head ∙ c.side_header.ensures) j.gate j.ajar in
-    let end : c.size-end.result - 1 ≡ c.keep.new.self.gate = omega (arith, c.size-end.ensures) in
-    segment_holds disk self.log self.side self.store self.base self.packed self.end h pairs has.0 has.1 payload es c.args.count segment size next c.keep.new.self (c.in_default.ensures.logs has.0 logs) (c.keep.ensures.head ∙ j.head ∙ c.side_header.ensures) c.in_default.ensures.shut (c.in_default.ensures.durable logs.told) _ _ refl sum end _ c.into_disk-2.ensures
+    let end : c.size-end.result - 1 ≡ c.write_record.new.self.gate = omega (arith, c.size-end.ensures) in
+    segment_holds disk self.log self.side self.store self.base self.packed self.end h pairs has.0 has.1 payload es c.args.count segment size next c.write_record.new.self (c.in_default.ensures.logs has.0 logs) (c.write_record.ensures.head ∙ j.head ∙ c.side_header.ensures) c.in_default.ensures.shut (c.in_default.ensures.durable logs.told) _ _ refl sum end _ c.into_disk-2.ensures
 
 pub returns-clause-crash : goal.returns-clause-crash
 returns-clause-crash g c = λ h pairs shut some es segment size next.
@@ -30,8 +30,8 @@ returns-clause-crash g c = λ h pairs shut some es segment size next.
     let j = c.at_gate-side.ensures in
     let logs = side_logs disk self.log self.side self.store self.base self.packed self.end h pairs has.0 has.1 c.at_gate-side.result j.disk (j.head ∙ c.side_header.ensures) j.gate j.ajar in
     subst (λ d. SideStays disk self.store h self.log.disk self.side d) (sym c.into_disk-2.ensures)
-    (lift_side disk self.store self.log.disk self.side c.keep.new.self.disk _ _ _ _
-    (subst (λ d. DiskGains disk d c.keep.new.self.disk (λ (f : List ℕ). (opened (side_head self.store) f ≡ Some has.0) ⊎ (opened (side_head self.store) f ≡ Some (has.0 ++ payload ∷ [])))) j.disk
+    (lift_side disk self.store self.log.disk self.side c.write_record.new.self.disk _ _ _ _
+    (subst (λ d. DiskGains disk d c.write_record.new.self.disk (λ (f : List ℕ). (opened (side_head self.store) f ≡ Some has.0) ⊎ (opened (side_head self.store) f ≡ Some (has.0 ++ payload ∷ [])))) j.disk
     (elapses_weaker _ _ _ _ _ _ (c.in_default.ensures.crash has.0 logs) (λ f either. by_head _ _ f _ _ (j.head ∙ c.side_header.ensures) either)))
     (segment_finds disk self.log self.side self.store self.base self.packed self.end h pairs has.0 has.1 payload es c.args.count segment size next shut))
 
@@ -44,7 +44,7 @@ returns-in-Err-clause-crash_err g c = λ h pairs shut some es segment size next.
     let j = c.at_gate-side.ensures in
     let logs = side_logs disk self.log self.side self.store self.base self.packed self.end h pairs has.0 has.1 c.at_gate-side.result j.disk (j.head ∙ c.side_header.ensures) j.gate j.ajar in
     subst (λ d. SideStays disk self.store h self.log.disk self.side d) (sym c.into_disk-in-Err.ensures)
-    (lift_side disk self.store self.log.disk self.side c.keep.new.self.disk _ _ _ _
-    (subst (λ d. DiskGains disk d c.keep.new.self.disk (λ (f : List ℕ). (opened (side_head self.store) f ≡ Some has.0) ⊎ (opened (side_head self.store) f ≡ Some (has.0 ++ payload ∷ [])))) j.disk
+    (lift_side disk self.store self.log.disk self.side c.write_record.new.self.disk _ _ _ _
+    (subst (λ d. DiskGains disk d c.write_record.new.self.disk (λ (f : List ℕ). (opened (side_head self.store) f ≡ Some has.0) ⊎ (opened (side_head self.store) f ≡ Some (has.0 ++ payload ∷ [])))) j.disk
     (elapses_weaker _ _ _ _ _ _ (c.in-Err.ensures.crash_err has.0 logs) (λ f leaves. by_head _ _ f _ _ (j.head ∙ c.side_header.ensures) (doubted _ _ _ (c.in-Err.ensures.doubts has.0 logs) _ leaves))))
     (segment_finds disk self.log self.side self.store self.base self.packed self.end h pairs has.0 has.1 payload es c.args.count segment size next shut))

@@ -12,14 +12,14 @@ returns-clause-stands c h m caller number command stands is = record {
   stop = c.stop_behind-self.ensures ∙ stopped h command c.args.change.stops _ _ is.stops (omega (arith, stands.entries)) stands.stop;
   callers = remembered _ h m caller _ number command c.args.change.last is.who is.last (c.remember.ensures _ _ stands.callers);
   rules = c.commit.ensures h m caller number command stands.rules is.rules;
-  stories = c.keep.ensures.keeps h m (Request caller number command) stands.stories is.legal.1 is.parts;
+  stories = c.commit-2.ensures.keeps h m (Request caller number command) stands.stories is.legal.1 is.parts;
 }
 
 pub returns-clause-reply : goal.returns-clause-reply
-returns-clause-reply c h m caller number command stands is = c.keep.ensures.reply ∙ is.parts.reply
+returns-clause-reply c h m caller number command stands is = c.commit-2.ensures.reply ∙ is.parts.reply
 
-pub keep-requires-clause-few : goal.keep-requires-clause-few
-keep-requires-clause-few c =
+pub commit-requires-2-clause-few : goal.commit-requires-2-clause-few
+commit-requires-2-clause-few c =
     let given = c.requires.stands in
     let h = given.0 in
     let stands = given.5.0 in

@@ -1,6 +1,6 @@
 use Rattle.std.proofs.Common.{◌<◌, length, arith}
-use Rattle.line_run.proofs.Ended.{told_of}
-use Rattle.line_run.proofs.run.tell.Goals as goal
+use Rattle.run_status.proofs.Tellings.{told_of}
+use Rattle.run_status.proofs.telling.write_line.Goals as goal
 
 pub returns : goal.returns
 returns g c =

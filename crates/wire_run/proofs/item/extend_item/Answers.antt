@@ -1,7 +1,7 @@
 use Rattle.std.proofs.Common.{◌≡◌, ◌-◌, ◌++◌, ℕ, take, length, min, ◌∙◌, ap, arith}
 use Rattle.input_lines.proofs.Pieces.{room_for}
 use Rattle.wire_run.specs.Reading.{ENOUGH}
-use Rattle.wire_run.proofs.item.keep.Goals as goal
+use Rattle.wire_run.proofs.item.extend_item.Goals as goal
 
 pub returns-clause-kept : goal.returns-clause-kept
 returns-clause-kept c =

@@ -5,7 +5,7 @@ use Rattle.news_types.specs.declared.command.Command.{Command}
 use Rattle.news_types.specs.declared.story.Incoming.{Incoming}
 use Rattle.news_types.specs.declared.name.Name.{Name}
 use Rattle.newsroom.specs.Acts.{IsSmall}
-use Rattle.news_room.proofs.opening.keep.Goals as goal
+use Rattle.news_room.proofs.opening.replay.Goals as goal
 
 -- an act that is no ingest and no request
 small : (act : Act) → ((name : Name) (come : Incoming) → act ≡ Ingest name come → ⊥) → ((caller : Name) (number : ℕ) (command : Command) → act ≡ Request caller number command → ⊥) → IsSmall act

@@ -1,6 +1,6 @@
 use Rattle.std.proofs.Common.{◌≡◌, ◌-◌, ◌+◌, ◌++◌, ℕ, take, length, min, ◌∙◌, ap, arith}
 use Rattle.input_lines.proofs.Pieces.{room_for}
-use Rattle.input_lines.proofs.keep.Goals as goal
+use Rattle.input_lines.proofs.extend_line.Goals as goal
 
 pub returns-clause-kept : goal.returns-clause-kept
 returns-clause-kept c =

@@ -5,7 +5,7 @@ use Rattle.news_io.specs.Keeper.{payload_of}
 use Rattle.news_journal.specs.Read.{AllFit-push, length-pushed}
 use Rattle.news_journal.proofs.Steps.{stage_shut, staged, stage_opens, gate_ajar, gate_open, gate_opens, ajar_long, shut_long, same_doubt, on_err, length-framed}
 use Rattle.news_journal.proofs.Time.{elapses_weaker, elapses_then}
-use Rattle.news_journal.proofs.log.Journal.keep.Goals as goal
+use Rattle.news_journal.proofs.log.Journal.write_record.Goals as goal
 
 -- the record could not be written behind the gate
 pub returns-in_err-write_through-clause-logs_err : goal.returns-in_err-write_through-clause-logs_err
