@@ -1,8 +1,10 @@
--- What a run over lines leaves in the two files of a store.
+-- What a run over members leaves in the two files of a store.
 use Rattle.std.proofs.Common.{◌≡◌, ◌⊎◌, inl, inr, ℕ, ◌+◌, ◌≤◌, Bool, true, false, List, [], ◌∷◌, ◌++◌, take, Option, Some, None, refl, sym, ◌∙◌, ap, subst, arith}
 use Rattle.std.specs.Prelude.{Result, Ok, Err}
 use Rattle.news_types.specs.Books.{Book}
 use Rattle.news_types.specs.Names.{Bytes}
+use Rattle.news_types.specs.declared.words.Format.{Format}
+use Rattle.news_types.specs.declared.words.Format.TheVariants.{Ninjs, Text7901}
 use Rattle.news_types.specs.History.{History}
 use Rattle.news_types.specs.Doubt.{payloads}
 use Rattle.news_types.specs.declared.entry.Entry.{Entry}
@@ -13,10 +15,10 @@ use Rattle.news_io.specs.Faults.{Rose}
 use Rattle.news_io.specs.Left.{IsLeft, Between}
 use Rattle.news_io.specs.Sink.{SinkMeaning}
 use Rattle.news_io.specs.Source.{SourceMeaning}
-use Rattle.input_lines.specs.Lines.{ended, lines}
 use Rattle.line_run.specs.Life.{Meaning, Life, Kept}
 use Rattle.line_run.specs.Run.{Ran, IsEnd, Ends}
-use Rattle.line_run.specs.Status.{IsRun, status_of}
+use Rattle.line_run.specs.Status.{CrashLeaves, status_of}
+use Rattle.run_status.specs.Status.{number_of}
 use Rattle.line_run.specs.Turns.{NextIs, AnsweredAll, AnsweredSome, after}
 use Rattle.line_run.specs.declared.ending.Ending.{Ending}
 use Rattle.line_run.specs.declared.ending.Ending.TheVariants as end
@@ -34,12 +36,15 @@ use Rattle.news_room.proofs.Lists.{same_list}
 use Rattle.store_files.specs.Files.{Files, OpenTo, OpenAlike, MayLeave, MayBe, LeftSince}
 use Rattle.store_files.specs.Store.{IsOpenRoom}
 use Rattle.store_files.proofs.Holding.{calls_shut, left_now}
-use Rattle.newsdesk_cli.specs.Batch.{IsDesk, Answered}
-use Rattle.newsdesk_cli.specs.Desk.{Shelf, StandsAt, book, moment_of}
+use Rattle.room_runs.specs.Members.{MembersAnswered}
+use Rattle.room_runs.specs.Wires.{IngestAnswered, of_incoming, wire_hand}
+use Rattle.text7901.specs.Wire.{wire}
+use Rattle.wire_run.specs.Decided.{decided}
+use Rattle.wire_run.specs.Members.{of_found, of_item, one_item, no_item}
+use Rattle.room_runs.specs.Desk.{Hand, Shelf, book, moment_of}
 use Rattle.newsdesk_cli.specs.FilesLeft.{NoneInDoubt, FilesLeft}
-use Rattle.newsdesk_cli.specs.Life.{life}
-use Rattle.newsdesk_cli.specs.Lines.{LONGEST_LINE, LONGEST_INPUT, of_line}
-use Rattle.newsdesk_cli.specs.declared.desk.LineDesk.{LineDesk}
+use Rattle.room_runs.specs.Life.{life}
+use Rattle.room_runs.specs.Lines.{LONGEST_INPUT}
 
 -- ---- an entry is in doubt only where the log ended the run
 
@@ -99,19 +104,32 @@ module _ {D : Type 0} (disk : DiskMeaning D) (p : Pair D) (store : Bytes) (label
     ];
   }
 
--- ---- the run
+-- ---- a desk that has gone on
 
-module _ {D C S O : Type 0} (disk : DiskMeaning D) (clock : ClockMeaning C) (source : SourceMeaning S) (sink : SinkMeaning O)
-    (log side : D) (r r' : Room (Pair D)) (c c' : C) (i i' : S) (o o' : O) (status : ℕ) (opened : IsOpenRoom disk log side r) (tells : disk.tells log) (tells' : disk.tells side)
-    (a : Answered (pair_of disk) clock source sink r r' c c' i i' o o' (record { store = opened.store; told = true; list = opened.history }) 65 status) where
+-- from a room to the room behind a call, of this book; the status tells how the call ended
+pub record Passage {D C A : Type 0} (disk : DiskMeaning D) (clock : ClockMeaning C) (hand : A → Hand (Pair D) C) (r r' : Room (Pair D)) (b : Book) (status : ℕ) : Type 0 where
+  pub shelf : Shelf
+  pub same_book : book shelf b.list ≡ b
+  pub old : A
+  pub new : A
+  pub before : (hand old).room.now ≡ r
+  pub after : (hand new).room.now ≡ r'
+  pub crash : CrashLeaves (life (pair_of disk) clock hand shelf) old new b.list
+  pub kept : (g : History) × Kept (life (pair_of disk) clock hand shelf) old new b.list g
+  -- only a failed keeper puts an entry in doubt
+  pub calm : (status ≡ 6 → ⊥) → ((e : Entry) → (life (pair_of disk) clock hand shelf).doubts old e → ⊥) → (e : Entry) → (life (pair_of disk) clock hand shelf).doubts new e → ⊥
+
+module _ {D C A : Type 0} (disk : DiskMeaning D) (clock : ClockMeaning C) (hand : A → Hand (Pair D) C)
+    (log side : D) (r r' : Room (Pair D)) (status : ℕ) (opened : IsOpenRoom disk log side r) (tells : disk.tells log) (tells' : disk.tells side)
+    (a : Passage disk clock hand r r' (record { store = opened.store; told = true; list = opened.history }) status) where
   abbrev store : Bytes
   store = opened.store
 
   abbrev h : History
   h = opened.history
 
-  abbrev Now : LineDesk (Pair D) C → Room (Pair D)
-  Now d = d.room.now
+  abbrev Now : A → Room (Pair D)
+  Now d = (hand d).room.now
 
   abbrev the_list : History
   the_list = a.crash.list
@@ -121,20 +139,17 @@ module _ {D C S O : Type 0} (disk : DiskMeaning D) (clock : ClockMeaning C) (sou
 
   stands : Stands (pair_of disk) r' (record { store = store; told = true; list = the_list })
   stands =
-      subst (λ (k : Room (Pair D)). Stands (pair_of disk) k (record { store = store; told = true; list = the_list })) a.after.room_is
+      subst (λ (k : Room (Pair D)). Stands (pair_of disk) k (record { store = store; told = true; list = the_list })) a.after
       (subst (λ (b : Book). Stands (pair_of disk) (Now a.new) (record { store = b.store; told = b.told; list = the_list })) a.same_book a.crash.stands.room_stands)
 
-  none_before : (e : Entry) → (life (pair_of disk) clock a.shelf).doubts a.old e → ⊥
+  none_before : (e : Entry) → (life (pair_of disk) clock hand a.shelf).doubts a.old e → ⊥
   none_before e d =
-      let now = subst (λ (k : Room (Pair D)). in_doubt (pair_of disk) k e) a.before.room_is d.1 in
+      let now = subst (λ (k : Room (Pair D)). in_doubt (pair_of disk) k e) a.before d.1 in
       let doubt = now.1 in
       calls_shut r.keeper.log.ajar opened.quiet doubt.is_ajar
 
-  doubts_now : (e : Entry) → in_doubt (pair_of disk) r' e → (life (pair_of disk) clock a.shelf).doubts a.new e
-  doubts_now e d = (told, subst (λ (k : Room (Pair D)). in_doubt (pair_of disk) k e) (sym a.after.room_is) d)
-
-  not_store : (status ≡ 6 → ⊥) → (a.run.result ≡ Err end.Store → ⊥)
-  not_store other is = other (a.run.status_is ∙ ap status_of is)
+  doubts_now : (e : Entry) → in_doubt (pair_of disk) r' e → (life (pair_of disk) clock hand a.shelf).doubts a.new e
+  doubts_now e d = (told, subst (λ (k : Room (Pair D)). in_doubt (pair_of disk) k e) (sym a.after) d)
 
   now : (files : Files) → MayBe disk (log_disk r'.keeper) (side_disk r'.keeper) files → IsLeft (OpenTo store) the_list (in_doubt (pair_of disk) r') files
   now files may = elim (left_now disk r'.keeper store the_list (stands.told refl) files stands.kept may) [
@@ -142,29 +157,26 @@ module _ {D C S O : Type 0} (disk : DiskMeaning D) (clock : ClockMeaning C) (sou
     | inr more ↦ inr (more.0, (more.1.1.formed.0, more.1.0), more.2)
   ]
 
-  moment_is : (d : LineDesk (Pair D) C) (k : Room (Pair D)) → Now d ≡ k → moment_of a.shelf.told ((pair_of disk).moment (Now d).keeper) ≡ disk.moment (log_disk k.keeper)
+  moment_is : (d : A) (k : Room (Pair D)) → Now d ≡ k → moment_of a.shelf.told ((pair_of disk).moment (Now d).keeper) ≡ disk.moment (log_disk k.keeper)
   moment_is d k same = ap (λ (t : Bool). moment_of t ((pair_of disk).moment (Now d).keeper)) told ∙ ap (λ (x : Room (Pair D)). disk.moment (log_disk x.keeper)) same
 
   since_opened : (files : Files) → LeftSince disk (log_disk r'.keeper) (side_disk r'.keeper) (disk.moment (log_disk r.keeper)) files → Between (OpenTo store) h the_list NoneInDoubt (in_doubt (pair_of disk) r') files
   since_opened files left =
       let f = pair_found r'.keeper.store files.0 files.1 in
       let at : (pair_of disk).left_since r'.keeper (disk.moment (log_disk r.keeper)) f.0 = (files.0, left.0, (files.1, left.1, f.1)) in
-      let there = subst (λ (k : Room (Pair D)). (pair_of disk).left_since k.keeper (disk.moment (log_disk r.keeper)) f.0) (sym a.after.room_is) at in
-      let before = subst (λ (t : ℕ). (pair_of disk).left_since (Now a.new).keeper t f.0) (sym (moment_is a.old r a.before.room_is)) there in
+      let there = subst (λ (k : Room (Pair D)). (pair_of disk).left_since k.keeper (disk.moment (log_disk r.keeper)) f.0) (sym a.after) at in
+      let before = subst (λ (t : ℕ). (pair_of disk).left_since (Now a.new).keeper t f.0) (sym (moment_is a.old r a.before)) there in
       between_found disk r'.keeper store (stands.told refl).label_is files f.0 f.1 h the_list
-      ((life (pair_of disk) clock a.shelf).doubts a.old) ((life (pair_of disk) clock a.shelf).doubts a.new) NoneInDoubt (in_doubt (pair_of disk) r')
-      none_before (λ e d. subst (λ (k : Room (Pair D)). in_doubt (pair_of disk) k e) a.after.room_is d.1)
+      ((life (pair_of disk) clock hand a.shelf).doubts a.old) ((life (pair_of disk) clock hand a.shelf).doubts a.new) NoneInDoubt (in_doubt (pair_of disk) r')
+      none_before (λ e d. subst (λ (k : Room (Pair D)). in_doubt (pair_of disk) k e) a.after d.1)
       (a.crash.each f.0 (told, before))
 
-  -- the list of the turns is that list
-  kept : (g : History) × Kept (life (pair_of disk) clock a.shelf) a.old a.new h g
-  kept = end_kept (of_line 65) (life (pair_of disk) clock a.shelf) sink (ended LONGEST_LINE) (lines LONGEST_LINE) LONGEST_INPUT a.old a.new o a.run.mid h a.run.ran.read a.run.ran.more a.run.result a.run.ran.did
-
-  one_list : kept.0 ≡ the_list
+  -- both lists behind it are one
+  one_list : a.kept.0 ≡ the_list
   one_list =
-      let mine = kept.1.list.room_stands in
+      let mine = a.kept.1.list.room_stands in
       let other = a.crash.stands.room_stands in
-      same_list kept.0 the_list mine.kept.formed other.kept.formed (sym (mine.told told).list_is ∙ (other.told told).list_is)
+      same_list a.kept.0 the_list mine.kept.formed other.kept.formed (sym (mine.told told).list_is ∙ (other.told told).list_is)
 
   -- files beside which the log was left before the run
   before_opened : (files : Files) (found : Option (List Bytes)) → PairFinds store files.0 files.1 found → (c s : List ℕ) → disk.may_leave (side_disk r.keeper) s → PairFinds store c s found
@@ -188,29 +200,60 @@ module _ {D C S O : Type 0} (disk : DiskMeaning D) (clock : ClockMeaning C) (sou
       let f = pair_found r'.keeper.store files.0 files.1 in
       let finds = subst (λ (s : Bytes). PairFinds s files.0 files.1 f.0) (stands.told refl).label_is f.1 in
       let at : (pair_of disk).left_since r'.keeper (disk.moment log) f.0 = (files.0, left.0, (files.1, left.1, f.1)) in
-      let there = subst (λ (k : Room (Pair D)). (pair_of disk).left_since k.keeper (disk.moment log) f.0) (sym a.after.room_is) at in
+      let there = subst (λ (k : Room (Pair D)). (pair_of disk).left_since k.keeper (disk.moment log) f.0) (sym a.after) at in
       let time = opened.crash tells tells' in
-      let early = subst (λ (n : ℕ). disk.moment log ≤ n) (sym (moment_is a.old r a.before.room_is)) time.later in
-      elim (kept.1.time.nothing_else (disk.moment log) f.0 early (told, there)) [
+      let early = subst (λ (n : ℕ). disk.moment log ≤ n) (sym (moment_is a.old r a.before)) time.later in
+      elim (a.kept.1.time.nothing_else (disk.moment log) f.0 early (told, there)) [
         | inl was ↦
-            let old = subst (λ (k : Room (Pair D)). (pair_of disk).left_since k.keeper (disk.moment log) f.0) a.before.room_is was.1 in
+            let old = subst (λ (k : Room (Pair D)). (pair_of disk).left_since k.keeper (disk.moment log) f.0) a.before was.1 in
             let label = (opened.holds true (λ is. (tells, tells'))).stands.told refl in
             before_opened files f.0 finds old.0 old.2.0 old.2.1 (subst (λ (s : Bytes). PairFinds s old.0 old.2.0 f.0) label.label_is old.2.2)
             (elim (time.nothing_else (disk.moment log) old.0 (omega arith) old.1) [ inl first ↦ inl (disk.only_now log old.0 first) | inr gained ↦ inr gained ])
         | inr between ↦
             inl (between_found disk r'.keeper store (stands.told refl).label_is files f.0 f.1 h the_list
-            ((life (pair_of disk) clock a.shelf).doubts a.old) ((life (pair_of disk) clock a.shelf).doubts a.new) NoneInDoubt (in_doubt (pair_of disk) r')
-            none_before (λ e d. subst (λ (k : Room (Pair D)). in_doubt (pair_of disk) k e) a.after.room_is d.1)
-            (subst (λ (g : History). Between room.Opens h g ((life (pair_of disk) clock a.shelf).doubts a.old) ((life (pair_of disk) clock a.shelf).doubts a.new) f.0) one_list between))
+            ((life (pair_of disk) clock hand a.shelf).doubts a.old) ((life (pair_of disk) clock hand a.shelf).doubts a.new) NoneInDoubt (in_doubt (pair_of disk) r')
+            none_before (λ e d. subst (λ (k : Room (Pair D)). in_doubt (pair_of disk) k e) a.after d.1)
+            (subst (λ (g : History). Between room.Opens h g ((life (pair_of disk) clock hand a.shelf).doubts a.old) ((life (pair_of disk) clock hand a.shelf).doubts a.new) f.0) one_list between))
       ]
 
-  pub files_left : FilesLeft disk log side store r r' h status
-  files_left = record {
+  pub passage_left : FilesLeft disk log side store r r' h status
+  passage_left = record {
     list = the_list;
     more = a.crash.more;
     stands = stands;
     now = now;
-    sure = λ other e d. end_calm (of_line 65) (life (pair_of disk) clock a.shelf) a.old a.new none_before sink (ended LONGEST_LINE) (lines LONGEST_LINE) LONGEST_INPUT o a.run.mid h a.run.ran.read a.run.ran.more a.run.result (not_store other) a.run.ran.did e (doubts_now e d);
+    sure = λ other e d. a.calm other none_before e (doubts_now e d);
     since_opened = since_opened;
     since_begun = since_begun;
   }
+
+-- ---- a run over members
+
+module _ {D C S O A X : Type 0} (disk : DiskMeaning D) (clock : ClockMeaning C) (source : SourceMeaning S) (sink : SinkMeaning O)
+    (hand : A → Hand (Pair D) C) (M : ℕ → Meaning Entry X) (decided all : List ℕ → List X)
+    (log side : D) (r r' : Room (Pair D)) (c c' : C) (i i' : S) (o o' : O) (status : ℕ) (opened : IsOpenRoom disk log side r) (tells : disk.tells log) (tells' : disk.tells side)
+    (a : MembersAnswered (pair_of disk) clock source sink hand M decided all r r' c c' i i' o o' (record { store = opened.store; told = true; list = opened.history }) 65 status) where
+  not_store : (status ≡ 6 → ⊥) → (a.run.result ≡ Err end.Store → ⊥)
+  not_store other is = other (a.run.status_is ∙ ap (λ r. number_of (status_of r)) is)
+
+  pub files_left : FilesLeft disk log side opened.store r r' opened.history status
+  files_left = passage_left disk clock hand log side r r' status opened tells tells' (record {
+    shelf = a.shelf;
+    same_book = a.same_book;
+    old = a.old;
+    new = a.new;
+    before = a.before.room_is;
+    after = a.after.room_is;
+    crash = a.crash;
+    kept = end_kept (M 65) (life (pair_of disk) clock hand a.shelf) sink decided all LONGEST_INPUT a.old a.new o a.run.mid opened.history a.run.ran.read a.run.ran.more a.run.result a.run.ran.did;
+    calm = λ other none. end_calm (M 65) (life (pair_of disk) clock hand a.shelf) a.old a.new none sink decided all LONGEST_INPUT o a.run.mid opened.history a.run.ran.read a.run.ran.more a.run.result (not_store other) a.run.ran.did;
+  })
+
+-- ---- by the format of what comes in
+
+module _ {D C S O : Type 0} (disk : DiskMeaning D) (clock : ClockMeaning C) (source : SourceMeaning S) (sink : SinkMeaning O)
+    (log side : D) (r r' : Room (Pair D)) (c c' : C) (i i' : S) (o o' : O) (status : ℕ) (opened : IsOpenRoom disk log side r) (tells : disk.tells log) (tells' : disk.tells side) (provider : Bytes) where
+  pub ingest_left : (format : Format) → IngestAnswered (pair_of disk) clock source sink provider format r r' c c' i i' o o' (record { store = opened.store; told = true; list = opened.history }) 65 status
+      → FilesLeft disk log side opened.store r r' opened.history status
+  ingest_left Text7901 a = files_left disk clock source sink wire_hand (λ start. of_found (of_incoming start provider)) decided wire log side r r' c c' i i' o o' status opened tells tells' a
+  ingest_left Ninjs a = files_left disk clock source sink wire_hand (λ start. of_item (of_incoming start provider)) no_item one_item log side r r' c c' i i' o o' status opened tells tells' a

@@ -1,4 +1,3 @@
-pub mod Desks
 pub mod Outputs
 pub mod Commands
 pub mod Identifiers

@@ -4,7 +4,7 @@ use Rattle.std.specs.Prelude.{Result, Ok, Err, OnOk, OnErr}
 use Rattle.news_io.specs.Faults.{Counts}
 use Rattle.news_io.specs.Sink.{SinkMeaning}
 use Rattle.news_io.specs.declared.faults.Failed.{Failed}
-use Rattle.line_run.specs.Life.{AllPassed}
+use Rattle.run_status.specs.Output.{AllPassed}
 use Rattle.newsdesk_cli.specs.Command.{IsWritten, IsCut}
 
 module _ {O : Type 0} (sink : SinkMeaning O) (old new : O) (bytes : List ℕ) where

@@ -2,12 +2,16 @@
 use Rattle.std.proofs.Common.{◌≡◌, ◌⊎◌, inl, inr, ℕ, ◌+◌, true, List, Option, Some, None, length, refl, sym, ◌∙◌, ap, subst, arith}
 use Rattle.std.specs.Prelude.{Result, Ok, Err}
 use Rattle.news_types.specs.Names.{Bytes}
+use Rattle.news_types.specs.declared.entry.Entry.{Entry}
+use Rattle.news_types.specs.declared.words.Format.TheVariants.{Ninjs, Text7901}
 use Rattle.news_types.specs.History.{History}
 use Rattle.news_io.specs.Clock.{ClockMeaning}
 use Rattle.news_io.specs.Disk.{DiskMeaning}
 use Rattle.news_io.specs.Faults.{Rose}
 use Rattle.news_io.specs.Sink.{SinkMeaning}
 use Rattle.news_io.specs.Source.{SourceMeaning}
+use Rattle.input_lines.specs.Lines.{ended, lines}
+use Rattle.line_run.specs.Life.{Meaning}
 use Rattle.line_run.specs.Run.{Ends}
 use Rattle.line_run.specs.Status as run
 use Rattle.line_run.specs.declared.ending.Ending.{Ending}
@@ -18,7 +22,15 @@ use Rattle.news_pair.specs.declared.pack_fault.PackFault.{PackFault}
 use Rattle.news_pair.specs.declared.pack_fault.PackFault.TheVariants as fault
 use Rattle.news_pair.specs.PackFaults.{IsDamage, FaultCounts}
 use Rattle.news_room.specs.declared.room.Room.{Room}
+use Rattle.room_runs.specs.Desk.{Hand, line_hand}
+use Rattle.room_runs.specs.Lines.{LONGEST_LINE, of_line}
+use Rattle.room_runs.specs.Members.{MembersAnswered}
+use Rattle.room_runs.specs.Wires.{of_incoming, wire_hand}
+use Rattle.text7901.specs.Wire.{wire}
+use Rattle.wire_run.specs.Decided.{decided}
+use Rattle.wire_run.specs.Members.{of_found, of_item, one_item, no_item}
 use Rattle.store_files.specs.Store.{Opens, TroubleCounts, IsNotOfBytes}
+use Rattle.run_status.specs.Status.{number_of}
 use Rattle.store_files.specs.Trouble.{status_of, trouble_of_pack}
 use Rattle.store_files.specs.declared.trouble.Trouble.{Trouble}
 use Rattle.store_files.specs.declared.trouble.Trouble.TheVariants as trouble
@@ -26,7 +38,7 @@ use Rattle.store_files.proofs.Serving.{served}
 use Rattle.newsdesk_cli.specs.Command.{check_line, IsServed, Serves, NotOpened, IsTold, IsChecked, IsCheck, IsPack, IsBatch, HasAnswered, Does}
 use Rattle.newsdesk_cli.specs.Packing.{packed_line}
 use Rattle.newsdesk_cli.specs.declared.words.Job.{Job}
-use Rattle.newsdesk_cli.specs.declared.words.Job.TheVariants.{Init, Batch, Check, Pack}
+use Rattle.newsdesk_cli.specs.declared.words.Job.TheVariants.{Init, Batch, Ingest, Check, Pack}
 use Rattle.newsdesk_cli.proofs.Commands.{rose_along}
 
 -- ---- statuses
@@ -35,7 +47,7 @@ use Rattle.newsdesk_cli.proofs.Commands.{rose_along}
 others : (before now n status : ℕ) → (n ≡ 3 → ⊥) → (n ≡ 7 → ⊥) → (n ≡ 6 → Rose before now) → status ≡ n → IsServed before now status
 others before now n status own whole failed is = record { own = λ s. own (sym is ∙ s); whole = λ s. whole (sym is ∙ s); failed = λ s. failed (sym is ∙ s) }
 
-by_trouble : (t : Trouble) (before now status : ℕ) → IsNotOfBytes t → TroubleCounts before now t → status ≡ status_of t → IsServed before now status
+by_trouble : (t : Trouble) (before now status : ℕ) → IsNotOfBytes t → TroubleCounts before now t → status ≡ number_of (status_of t) → IsServed before now status
 by_trouble trouble.WrongStore before now status outside count is = absurd outside
 by_trouble trouble.Store before now status outside count is = others before now 6 status (λ s. absurd (omega (arith, s))) (λ s. absurd (omega (arith, s))) (λ s. count) is
 by_trouble (trouble.Damaged at found) before now status outside count is = absurd outside
@@ -43,13 +55,13 @@ by_trouble (trouble.DamagedSide at found) before now status outside count is = a
 by_trouble trouble.Full before now status outside count is = absurd outside
 by_trouble trouble.Memory before now status outside count is = others before now 9 status (λ s. absurd (omega (arith, s))) (λ s. absurd (omega (arith, s))) (λ s. absurd (omega (arith, s))) is
 
-by_pack : (why : PackFault) (before now status : ℕ) → (IsDamage why → ⊥) → FaultCounts before now why → status ≡ status_of (trouble_of_pack why) → IsServed before now status
+by_pack : (why : PackFault) (before now status : ℕ) → (IsDamage why → ⊥) → FaultCounts before now why → status ≡ number_of (status_of (trouble_of_pack why)) → IsServed before now status
 by_pack fault.DiskFault before now status whole counts is = others before now 6 status (λ s. absurd (omega (arith, s))) (λ s. absurd (omega (arith, s))) (λ s. counts.fault tt) is
 by_pack (fault.Full size count) before now status whole counts is = others before now 8 status (λ s. absurd (omega (arith, s))) (λ s. absurd (omega (arith, s))) (λ s. absurd (omega (arith, s))) is
 by_pack (fault.Damaged at found) before now status whole counts is = absurd (whole tt)
 by_pack fault.Memory before now status whole counts is = others before now 9 status (λ s. absurd (omega (arith, s))) (λ s. absurd (omega (arith, s))) (λ s. absurd (omega (arith, s))) is
 
-by_run : (r : Result (Unit {0}) Ending) (before now status : ℕ) → (r ≡ Err end.Store → Rose before now) → status ≡ run.status_of r → IsServed before now status
+by_run : (r : Result (Unit {0}) Ending) (before now status : ℕ) → (r ≡ Err end.Store → Rose before now) → status ≡ number_of (run.status_of r) → IsServed before now status
 by_run (Ok u) before now status rose is = others before now 0 status (λ s. absurd (omega (arith, s))) (λ s. absurd (omega (arith, s))) (λ s. absurd (omega (arith, s))) is
 by_run (Err end.Read) before now status rose is = others before now 4 status (λ s. absurd (omega (arith, s))) (λ s. absurd (omega (arith, s))) (λ s. absurd (omega (arith, s))) is
 by_run (Err end.Write) before now status rose is = others before now 5 status (λ s. absurd (omega (arith, s))) (λ s. absurd (omega (arith, s))) (λ s. absurd (omega (arith, s))) is
@@ -81,14 +93,16 @@ module _ {D O S C : Type 0} (disk : DiskMeaning D) (clock : ClockMeaning C) (sou
   not_opened : NotOpened disk sink log log' side side' o o' status → IsServed Before Now status
   not_opened n = by_trouble n.why Before Now status (served (disk.seen log) (disk.seen side) store h long opens n.why (n.refused.cause told told')) n.refused.count n.stopped.status_is
 
-  answered : HasAnswered disk clock source sink log log' side side' i i' o o' c c' status → IsServed Before Now status
-  answered a =
+  -- by desks of any type
+  answered : {A X : Type 0} (hand : A → Hand (Pair D) C) (M : ℕ → Meaning Entry X) (decided all : List ℕ → List X)
+      → HasAnswered disk clock source sink log log' side side' i i' o o' c c' status (λ room after b. MembersAnswered (pair_of disk) clock source sink hand M decided all room after c c' i i' o o' b 65 status) → IsServed Before Now status
+  answered hand M decided all a =
       let r = a.answered true (λ is. (told, told')) in
       let faults = λ (k : Room (Pair D)). (pair_of disk).faults k.keeper in
       by_run r.run.result Before Now status
       (λ is.
-      let ends = subst (Ends (source.faults i) (source.faults i') (faults r.old.room.now) (faults r.new.room.now) (sink.faults o) (sink.faults r.run.mid)) is r.run.ends in
-      let rose = subst (λ (k : Room (Pair D)). Rose (faults a.room) (faults k)) r.after.room_is (subst (λ (k : Room (Pair D)). Rose (faults k) (faults r.new.room.now)) r.before.room_is ends.1.0) in
+      let ends = subst (Ends (source.faults i) (source.faults i') (faults (hand r.old).room.now) (faults (hand r.new).room.now) (sink.faults o) (sink.faults r.run.mid)) is r.run.ends in
+      let rose = subst (λ (k : Room (Pair D)). Rose (faults a.room) (faults k)) r.after.room_is (subst (λ (k : Room (Pair D)). Rose (faults k) (faults (hand r.new).room.now)) r.before.room_is ends.1.0) in
       rose_along disk log side log' side' a.room.keeper a.after.keeper a.opened.calm a.same a.same_side rose)
       r.run.status_is
 
@@ -96,7 +110,10 @@ module _ {D O S C : Type 0} (disk : DiskMeaning D) (clock : ClockMeaning C) (sou
   serves None did = tt
   serves (Some (Init made)) did = tt
   serves (Some Batch) (inl not) = not_opened not.why
-  serves (Some Batch) (inr done) = answered done
+  serves (Some Batch) (inr done) = answered line_hand of_line (ended LONGEST_LINE) (lines LONGEST_LINE) done
+  serves (Some (Ingest format provider)) (inl not) = not_opened not.why
+  serves (Some (Ingest Text7901 provider)) (inr done) = answered wire_hand (λ start. of_found (of_incoming start provider)) decided wire done
+  serves (Some (Ingest Ninjs provider)) (inr done) = answered wire_hand (λ start. of_item (of_incoming start provider)) no_item one_item done
   serves (Some Check) did = elim did.1 [ inl not ↦ not_opened not | inr done ↦ check_served sink o o' Before Now status done.opened.history done.told ]
   serves (Some Pack) did = elim did.1 [
     | inl not ↦ not_opened not

@@ -1,6 +1,8 @@
 -- What each command does to the log, its side and the output, and with which status it ends.
-use Rattle.std.specs.Prelude.{◌≡◌, ◌⊎◌, ◌≤◌, ℕ, ◌+◌, Bool, true, List, [], ◌∷◌, ◌++◌, length, take, codes, Option, Some, None}
+use Rattle.std.specs.Prelude.{◌≡◌, ◌⊎◌, ◌≤◌, ℕ, ◌+◌, Bool, true, List, [], ◌∷◌, ◌++◌, length, take, Option, Some, None}
 use Rattle.news_types.specs.declared.query.Query.TheVariants as query
+use Rattle.news_types.specs.declared.words.Format.{Format}
+use Rattle.news_types.specs.Books.{Book}
 use Rattle.news_types.specs.Names.{Bytes}
 use Rattle.news_types.specs.History.{History}
 use Rattle.news_types.specs.Doubt.{payloads}
@@ -10,8 +12,8 @@ use Rattle.news_io.specs.Clock.{ClockMeaning}
 use Rattle.news_io.specs.Disk.{DiskMeaning, LeavesOnly}
 use Rattle.news_io.specs.Sink.{SinkMeaning}
 use Rattle.news_io.specs.Source.{SourceMeaning}
-use Rattle.line_run.specs.Life.{Wrote, AllPassed}
-use Rattle.line_run.specs.Status.{Told, IsComplete}
+use Rattle.run_status.specs.Output.{Wrote, AllPassed, Told}
+use Rattle.line_run.specs.Status.{IsComplete}
 use Rattle.desk_answers.specs.Answers.{answer_bytes}
 use Rattle.entry_codec.specs.Spelling.{entry_bytes}
 use Rattle.news_journal.specs.Created.{IsInTheMaking}
@@ -24,21 +26,20 @@ use Rattle.news_pair.specs.Keeper.{pair_of}
 use Rattle.news_pair.specs.PackFaults.{FaultCounts}
 use Rattle.news_pair.specs.Stands.{log_disk, side_disk}
 use Rattle.news_room.specs.declared.room.Room.{Room}
-use Rattle.newsdesk_cli.specs.Batch.{Answered}
+use Rattle.room_runs.specs.Batch.{InputAnswered}
+use Rattle.room_runs.specs.Wires.{IngestAnswered}
 use Rattle.newsdesk_cli.specs.FilesLeft.{FilesLeft}
-use Rattle.newsdesk_cli.specs.Lines.{no_frames, LONGEST_INPUT}
+use Rattle.room_runs.specs.Lines.{no_frames, LONGEST_INPUT}
 use Rattle.newsdesk_cli.specs.Packing.{packed_line, Packs, PacksNot}
 use Rattle.store_files.specs.Files.{FilesHold, CrashKeeps}
 use Rattle.store_files.specs.Store.{IsRefused, IsOpenRoom}
-use Rattle.store_files.specs.Trouble.{status_of, line_of, trouble_of_pack}
+use Rattle.run_status.specs.Status.{number_of, line_of}
+use Rattle.run_status.specs.declared.status.Status.TheVariants.{Usage}
+use Rattle.store_files.specs.Trouble.{status_of, trouble_of_pack}
 use Rattle.store_files.specs.declared.trouble.Trouble.{Trouble}
 use Rattle.store_files.specs.declared.trouble.Trouble.TheVariants as trouble
 use Rattle.newsdesk_cli.specs.declared.words.Job.{Job}
-use Rattle.newsdesk_cli.specs.declared.words.Job.TheVariants.{Init, Batch, Check, Pack}
-
--- the line before status 2
-abbrev pub usage : List ℕ
-usage = codes "{\"status\":2}\n"
+use Rattle.newsdesk_cli.specs.declared.words.Job.TheVariants.{Init, Batch, Ingest, Check, Pack}
 
 -- how many entries and publications a list has, as a line
 abbrev pub check_line : History → List ℕ
@@ -59,8 +60,8 @@ module _ {O : Type 0} (sink : SinkMeaning O) where
 
   -- the status, and the line that tells it
   pub record IsStopped (t : Trouble) (old new : O) (status : ℕ) : Type 0 where
-    pub status_is : status ≡ status_of t
-    pub line : Told sink old new (line_of t)
+    pub status_is : status ≡ number_of (status_of t)
+    pub line : Told sink old new (line_of (status_of t))
 
   -- an answer's line was written; or the first of it, where the output has failed
   abbrev pub IsTold : List ℕ → O → O → ℕ → Type 0
@@ -72,8 +73,8 @@ module _ {O : Type 0} (sink : SinkMeaning O) where
 
   -- the words are no command
   pub record IsRefusedUse (old new : O) (status : ℕ) : Type 0 where
-    pub status_is : status ≡ 2
-    pub line : Told sink old new usage
+    pub status_is : status ≡ number_of Usage
+    pub line : Told sink old new (line_of Usage)
 
 module _ {D O : Type 0} (disk : DiskMeaning D) (sink : SinkMeaning O) (log log' side side' : D) (o o' : O) (status : ℕ) where
   -- the files do not serve
@@ -129,21 +130,26 @@ module _ {D O S C : Type 0} (disk : DiskMeaning D) (clock : ClockMeaning C) (sou
     pub input_same : i' ≡ i
     pub clock_same : c' ≡ c
 
-  -- the files were opened, and the lines of the input were answered from their list on
-  pub record HasAnswered : Type 0 where
+  -- the files were opened, and the input was answered from their list on: from a room to the room behind it, at a book
+  pub record HasAnswered (Answered : Room (Pair D) → Room (Pair D) → Book → Type 0) : Type 0 where
     pub room : Room (Pair D)
     pub opened : IsOpenRoom disk log side room
     pub after : Room (Pair D)
     pub same : log' ≡ log_disk after.keeper
     pub same_side : side' ≡ side_disk after.keeper
     pub answered : (told : Bool) → (told ≡ true → disk.tells log × disk.tells side)
-        → Answered (pair_of disk) clock source sink room after c c' i i' o o' (record { store = opened.store; told = told; list = opened.history }) 65 status
+        → Answered room after (record { store = opened.store; told = told; list = opened.history })
     pub files : disk.tells log → disk.tells side → FilesLeft disk log side opened.store room after opened.history status
     pub complete : source.tells i → length (source.ahead i) ≤ LONGEST_INPUT → (Rose (source.faults i) (source.faults i') → ⊥) → (Rose (sink.faults o) (sink.faults o') → ⊥)
         → (Rose (disk.faults log + disk.faults side) (disk.faults log' + disk.faults side') → ⊥) → IsComplete status
 
+  -- the lines of the input were answered
   abbrev pub IsBatch : Type 0
-  IsBatch = NotBegun ⊎ HasAnswered
+  IsBatch = NotBegun ⊎ HasAnswered (λ room after b. InputAnswered (pair_of disk) clock source sink room after c c' i i' o o' b 65 status)
+
+  -- the stories of the input, in this format, came in from a provider
+  abbrev pub IsIngest : Format → Bytes → Type 0
+  IsIngest format provider = NotBegun ⊎ HasAnswered (λ room after b. IngestAnswered (pair_of disk) clock source sink provider format room after c c' i i' o o' b 65 status)
 
 module _ {D O : Type 0} (disk : DiskMeaning D) (sink : SinkMeaning O) (store : Bytes) (log log' side side' : D) (o o' : O) (status : ℕ) where
   -- one of the files is not empty, and both are as they were
@@ -204,6 +210,7 @@ module _ {D O S C : Type 0} (disk : DiskMeaning D) (clock : ClockMeaning C) (sou
   Does (Some Check) = Unread × IsCheck disk sink log log' side side' o o' status
   Does (Some Pack) = Unread × IsPack disk sink log log' side side' o o' status
   Does (Some Batch) = IsBatch disk clock source sink log log' side side' i i' o o' c c' status
+  Does (Some (Ingest format provider)) = IsIngest disk clock source sink log log' side side' i i' o o' c c' status format provider
 
 -- the files are not refused for their bytes, and a failure is told only where the count of the disks rose
 pub record IsServed (before now status : ℕ) : Type 0 where
@@ -216,5 +223,6 @@ abbrev pub Serves : ℕ → ℕ → Option Job → ℕ → Type 0
 Serves before now None status = Unit {0}
 Serves before now (Some (Init store)) status = Unit {0}
 Serves before now (Some Batch) status = IsServed before now status
+Serves before now (Some (Ingest format provider)) status = IsServed before now status
 Serves before now (Some Check) status = IsServed before now status
 Serves before now (Some Pack) status = IsServed before now status

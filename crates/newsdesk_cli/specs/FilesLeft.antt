@@ -1,4 +1,4 @@
--- What a run over lines leaves in the two files of a store, said of their bytes.
+-- What a run over the members of an input leaves in the two files of a store, said of their bytes.
 use Rattle.std.specs.Prelude.{◌≡◌, ◌⊎◌, ℕ, true, ◌++◌}
 use Rattle.news_types.specs.Names.{Bytes}
 use Rattle.news_types.specs.History.{History}

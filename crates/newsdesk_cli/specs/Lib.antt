@@ -1,9 +1,3 @@
-pub mod Texts
-pub mod Lines
-pub mod Desk
-pub mod Leaving
-pub mod Life
-pub mod Batch
 pub mod FilesLeft
 pub mod Command
 pub mod Words

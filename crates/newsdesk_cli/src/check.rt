@@ -4,11 +4,11 @@ ghost use Rattle.news_types.specs.Books.{Book};
 ghost use Rattle.news_room.specs.Stands.{Stands, SomeBook};
 ghost use Rattle.newsdesk_cli.specs.Command.{check_line as line_of_list, IsChecked};
 
-use crate::telling::{stop, tell_answer};
-use crate::texts::question_answered;
+use crate::telling::{tell_answer, tell_trouble};
 use news_io::{Keeper, Sink};
 use news_room::Room;
 use news_types::{Memory, Query};
+use room_runs::question_answered;
 use std::alloc::Global;
 use store_files::Trouble;
 
@@ -32,6 +32,6 @@ pub(crate) fn check_line<O: Sink, K: Keeper>(alloc: Global, output: &mut O, room
 {
     match check_text(alloc, room) {
         Ok(text) => tell_answer(output, &text),
-        Err(Memory) => stop(output, Trouble::Memory),
+        Err(Memory) => tell_trouble(output, Trouble::Memory),
     }
 }

@@ -6,16 +6,16 @@ ghost use Rattle.news_types.specs.History.{History};
 ghost use Rattle.news_types.specs.Names.{Bytes};
 ghost use Rattle.store_files.specs.Store.{Opens};
 ghost use Rattle.newsdesk_cli.specs.Words.{job_of};
-ghost use Rattle.newsdesk_cli.specs.Command.{IsInit, IsBatch, IsCheck, IsPack, Does, Serves};
+ghost use Rattle.newsdesk_cli.specs.Command.{IsInit, IsBatch, IsIngest, IsCheck, IsPack, Does, Serves};
 
-use crate::batch::answer_input;
 use crate::check::check_line;
 use crate::pack::tell_packed;
-use crate::telling::{refuse_words, stop};
+use crate::telling::{tell_trouble, tell_usage};
 use crate::words::{Job, read_words};
 use news_io::{Clock, Disk, Failed, Keeper, Link, Sink, Source};
 use news_journal::{Header, Journal};
-use news_types::Text;
+use news_types::{Format, Name, Text};
+use room_runs::{answer_input, ingest_input};
 use std::alloc::Global;
 use store_files::{Trouble, is_empty, open_room};
 use uuid::Uuid;
@@ -40,7 +40,7 @@ pub fn run<S: Source, O: Sink, D: Disk, C: Clock, L: Link>(
     ensures links { links.new ≡ links.old }
 {
     let Some(job) = read_words(words) else {
-        return (refuse_words(output), log, side);
+        return (tell_usage(output), log, side);
     };
     do_job(alloc, job, input, output, log, side, clock)
 }
@@ -61,6 +61,9 @@ fn do_job<S: Source, O: Sink, D: Disk, C: Clock>(
     match job {
         Job::Init(store) => init(output, log, side, store),
         Job::Batch => batch(alloc, input, output, log, side, clock),
+        Job::Ingest { format, provider } => {
+            ingest(alloc, input, output, log, side, clock, format, provider)
+        }
         Job::Check => check(alloc, output, log, side),
         Job::Pack => pack(alloc, output, log, side),
     }
@@ -89,12 +92,12 @@ fn init<O: Sink, D: Disk>(output: &mut O, mut log: D, mut side: D, store: Uuid) 
 {
     match are_empty(&mut log, &mut side) {
         Ok(true) => {}
-        Ok(false) => return (stop(output, Trouble::WrongStore), log, side),
-        Err(_) => return (stop(output, Trouble::Store), log, side),
+        Ok(false) => return (tell_trouble(output, Trouble::WrongStore), log, side),
+        Err(_) => return (tell_trouble(output, Trouble::Store), log, side),
     }
     match Journal::create(log, &Header::Room { store }) {
         Ok(journal) => (0, journal.into_disk(), side),
-        Err((log, _)) => (stop(output, Trouble::Store), log, side),
+        Err((log, _)) => (tell_trouble(output, Trouble::Store), log, side),
     }
 }
 
@@ -116,7 +119,31 @@ fn batch<S: Source, O: Sink, D: Disk, C: Clock>(
             let (log, side) = room.into_keeper().into_disks();
             (status, log, side)
         }
-        Err((log, side, trouble)) => (stop(output, trouble), log, side),
+        Err((log, side, trouble)) => (tell_trouble(output, trouble), log, side),
+    }
+}
+
+/// Takes in what the input has, in this format, from this provider.
+#[tactic(none)]
+fn ingest<S: Source, O: Sink, D: Disk, C: Clock>(
+    alloc: Global,
+    input: &mut S,
+    output: &mut O,
+    log: D,
+    side: D,
+    clock: &mut C,
+    format: Format,
+    provider: Name,
+) -> (u8, D, D)
+    ensures { IsIngest D.disk C.clock S.source O.sink log result.1 side result.2 input.old input.new output.old output.new clock.old clock.new result.0 format provider }
+{
+    match open_room(alloc, log, side) {
+        Ok(mut room) => {
+            let status = ingest_input(alloc, input, output, &mut room, clock, format, provider);
+            let (log, side) = room.into_keeper().into_disks();
+            (status, log, side)
+        }
+        Err((log, side, trouble)) => (tell_trouble(output, trouble), log, side),
     }
 }
 
@@ -131,7 +158,7 @@ fn check<O: Sink, D: Disk>(alloc: Global, output: &mut O, log: D, side: D) -> (u
             let (log, side) = room.into_keeper().into_disks();
             (status, log, side)
         }
-        Err((log, side, trouble)) => (stop(output, trouble), log, side),
+        Err((log, side, trouble)) => (tell_trouble(output, trouble), log, side),
     }
 }
 
@@ -142,7 +169,7 @@ fn pack<O: Sink, D: Disk>(alloc: Global, output: &mut O, log: D, side: D) -> (u8
 {
     let room = match open_room(alloc, log, side) {
         Ok(room) => room,
-        Err((log, side, trouble)) => return (stop(output, trouble), log, side),
+        Err((log, side, trouble)) => return (tell_trouble(output, trouble), log, side),
     };
     match room.into_keeper().pack(alloc) {
         Ok((pair, count)) => {
@@ -150,6 +177,6 @@ fn pack<O: Sink, D: Disk>(alloc: Global, output: &mut O, log: D, side: D) -> (u8
             let (log, side) = pair.into_disks();
             (status, log, side)
         }
-        Err((log, side, fault)) => (stop(output, Trouble::from(fault)), log, side),
+        Err((log, side, fault)) => (tell_trouble(output, Trouble::from(fault)), log, side),
     }
 }

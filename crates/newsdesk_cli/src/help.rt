@@ -1,15 +1,32 @@
 //! What the program says of itself.
 
-/// How the program is used, for `--help`.
-pub fn help_text() -> &'static str {
-    "newsdesk: a newsroom server for one news agency
+const HEAD: &str = "newsdesk: a newsroom server for one news agency
 
-newsdesk init STORE UUID   make an empty log in the file STORE, for the store of this identifier
-newsdesk batch STORE       answer the lines of standard input, one JSON object a line, and keep what they add
-newsdesk check STORE       open the log, and say how many entries and publications it holds
-newsdesk pack STORE        pack what only the log holds into its side, empty the log, and say how many entries there are
-newsdesk --help            say this
-newsdesk --version         say the version
+";
+
+const INIT: &str =
+    "newsdesk init STORE UUID                make an empty log in the file STORE, for the store of this identifier
+";
+
+const BATCH: &str =
+    "newsdesk batch STORE                    answer the lines of standard input, one JSON object a line, and keep what they add
+";
+
+const INGEST: &str =
+    "newsdesk ingest STORE FORMAT PROVIDER   take in standard input as PROVIDER sent it: FORMAT 7901 is a wire, ninjs one item
+";
+
+const CHECK: &str =
+    "newsdesk check STORE                    open the log, and say how many entries and publications it holds
+";
+
+const PACK: &str =
+    "newsdesk pack STORE                     pack what only the log holds into its side, empty the log, and say how many entries there are
+";
+
+const TAIL: &str = "newsdesk --help                         say this
+newsdesk COMMAND --help                 say the line of one command
+newsdesk --version                      say the version
 
 A line of `batch` is a request, as
   {\"by\":\"admin\",\"number\":1,\"do\":\"add_subscriber\",\"subscriber\":\"alpha\",\"format\":\"ninjs\",\"products\":[\"all\"]}
@@ -20,7 +37,23 @@ or a question, as
 Exit status: 0 all was answered, 2 usage, 3 wrong store, 4 read fault, 5 write fault, 6 store fault,
 7 damaged log or side, 8 log or side full, 9 out of memory, 12 input too long. A status other than 0 and 5 is written
 to the output too, as {\"status\":7} with the place of the damage.
-"
+";
+
+/// How the program is used, for `--help`: texts, to be written one behind the other. Each command has a line.
+pub fn help_texts() -> [&'static str; 7] {
+    [HEAD, INIT, BATCH, INGEST, CHECK, PACK, TAIL]
+}
+
+/// The line of a command, for its word and `--help`: nothing where the word is no command.
+pub fn command_help(command: &str) -> Option<&'static str> {
+    match command {
+        "init" => Some(INIT),
+        "batch" => Some(BATCH),
+        "ingest" => Some(INGEST),
+        "check" => Some(CHECK),
+        "pack" => Some(PACK),
+        _ => None,
+    }
 }
 
 /// The program's name and version, for `--version`.

@@ -2,12 +2,9 @@
 ghost use Rattle.std.specs.Prelude.{◌≡◌, OnOk, OnErr};
 ghost use Rattle.newsdesk_cli.specs.Command.{IsWritten, IsCut, IsTold, IsStopped, IsRefusedUse};
 
-use line_run::tell;
 use news_io::{Failed, Sink, write_through};
+use run_status::{Status, tell_status};
 use store_files::Trouble;
-
-/// The line before status 2.
-const USAGE: &[u8] = b"{\"status\":2}\n";
 
 /// Writes bytes, and passes them on.
 fn write_out<O: Sink>(output: &mut O, bytes: &[u8]) -> Result<(), Failed>
@@ -22,23 +19,21 @@ pub(crate) fn tell_answer<O: Sink>(output: &mut O, line: &[u8]) -> u8
     ensures { IsTold O.sink line.now output.old output.new result }
 {
     match write_out(output, line) {
-        Ok(()) => 0,
-        Err(_) => 5,
+        Ok(()) => Status::Done.number(),
+        Err(_) => Status::Output.number(),
     }
 }
 
-/// Says why there is nothing to do, and gives the status.
-pub(crate) fn stop<O: Sink>(output: &mut O, trouble: Trouble) -> u8
+/// Tells why there is nothing to do, and gives the status.
+pub(crate) fn tell_trouble<O: Sink>(output: &mut O, trouble: Trouble) -> u8
     ensures { IsStopped O.sink trouble output.old output.new result }
 {
-    tell(output, trouble.line().as_slice());
-    trouble.status()
+    tell_status(output, Status::from(trouble))
 }
 
-/// Says that the words are no command, and gives the status.
-pub(crate) fn refuse_words<O: Sink>(output: &mut O) -> u8
+/// Tells that the words are no command, and gives the status.
+pub(crate) fn tell_usage<O: Sink>(output: &mut O) -> u8
     ensures { IsRefusedUse O.sink output.old output.new result }
 {
-    tell(output, USAGE);
-    2
+    tell_status(output, Status::Usage)
 }

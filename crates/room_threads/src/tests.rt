@@ -12,7 +12,7 @@ mod devices;
 
 use entry_codec::decode;
 use news_io::{Keeper, MemoryKeeper};
-use news_room::{Answered, Room};
+use news_room::{Handled, Room};
 use news_types::{Act, Command, Name, Reply};
 use room_lock::{Pass, Shared, Work};
 use std::alloc::Global;
@@ -69,8 +69,8 @@ struct Flashing {
 }
 
 impl Flashing {
-    fn count(&mut self, place: u64, answered: Answered) {
-        if let Answered::Done(reply) = answered {
+    fn count(&mut self, place: u64, answered: Handled) {
+        if let Handled::Done(reply) = answered {
             if is_of(reply, place) {
                 self.in_place = self.in_place.wrapping_add(1);
             }
@@ -145,8 +145,8 @@ fn beside<R: Threads + Wait + Sync>(
     (shared.join(one, other), ana, ben)
 }
 
-fn tell_done(answered: Answered) -> bool {
-    matches!(answered, Answered::Done(_))
+fn tell_done(answered: Handled) -> bool {
+    matches!(answered, Handled::Done(_))
 }
 
 /// Whether a request of `admin` is done.

@@ -5,7 +5,7 @@ ghost use Rattle.news_room.specs.Stands.{SomeBook};
 use super::command_of;
 use news_io::{Keeper, MemoryDisk, Tear};
 use news_journal::{Header, Journal, Opened};
-use news_room::{Answered, Claimed, Kept, Room, Ticked};
+use news_room::{Claimed, Handled, Kept, Room, Ticked};
 use news_types::{Name, Reply};
 use std::alloc::Global;
 use std::process::Abort;
@@ -35,10 +35,10 @@ enum Told {
     Other,
 }
 
-fn tell(answered: Answered) -> Told {
+fn tell(answered: Handled) -> Told {
     match answered {
-        Answered::Done(reply) => Told::Done(reply),
-        Answered::Fault => Told::Fault,
+        Handled::Done(reply) => Told::Done(reply),
+        Handled::Fault => Told::Fault,
         _ => Told::Other,
     }
 }

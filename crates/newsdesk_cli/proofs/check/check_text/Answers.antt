@@ -1,8 +1,8 @@
 use Rattle.std.proofs.Common.{◌∙◌, refl, ℕ, List, [], ◌∷◌, ◌++◌, ap, subst, sym}
 use Rattle.news_types.specs.declared.query.Query.TheVariants.{Check}
 use Rattle.desk_answers.specs.Answers.{answer_bytes, HasLine}
-use Rattle.newsdesk_cli.specs.Lines.{no_frames}
-use Rattle.newsdesk_cli.proofs.Desks.{has_line}
+use Rattle.room_runs.specs.Lines.{no_frames}
+use Rattle.room_runs.proofs.Desks.{has_line}
 use Rattle.newsdesk_cli.proofs.check.check_text.Goals as goal
 
 pub question_answered-requires : goal.question_answered-requires

@@ -1,5 +1,8 @@
 use Rattle.std.proofs.Common.{◌∙◌, inl, inr, true, ap, refl}
 use Rattle.news_pair.specs.Stands.{log_disk, side_disk}
+use Rattle.input_lines.specs.Lines.{ended, lines}
+use Rattle.room_runs.specs.Desk.{line_hand}
+use Rattle.room_runs.specs.Lines.{LONGEST_LINE, of_line}
 use Rattle.newsdesk_cli.proofs.Commands.{some_book, rose_along}
 use Rattle.newsdesk_cli.proofs.FilesLeft.{files_left}
 use Rattle.newsdesk_cli.proofs.command.batch.Goals as goal
@@ -24,13 +27,13 @@ returns-in-Ok g c =
       answered = λ told only. done.answered (record { store = c.in-Ok.ensures.opened.store; told = told; list = c.in-Ok.ensures.opened.history }) 65 (c.in-Ok.ensures.opened.holds told only);
       files = λ told told'.
           let opened = c.in-Ok.ensures.opened in
-          files_left d g.C.Clock.clock g.S.Source.source g.O.Sink.sink c.args.log c.args.side c.in-Ok.room c.answer_input-status.new.room _ _ _ _ _ _ c.answer_input-status.result opened told told' (done.answered (record { store = opened.store; told = true; list = opened.history }) 65 (opened.holds true (λ is. (told, told'))));
+          files_left d g.C.Clock.clock g.S.Source.source g.O.Sink.sink line_hand of_line (ended LONGEST_LINE) (lines LONGEST_LINE) c.args.log c.args.side c.in-Ok.room c.answer_input-status.new.room _ _ _ _ _ _ c.answer_input-status.result opened told told' (done.answered (record { store = opened.store; told = true; list = opened.history }) 65 (opened.holds true (λ is. (told, told'))));
       complete = λ given few reads writes disks. done.complete given few reads writes (λ rose. disks (rose_along d c.args.log c.args.side c.into_disks-log.result.0 c.into_disks-log.result.1 c.in-Ok.room.keeper c.answer_input-status.new.room.keeper c.in-Ok.ensures.opened.calm same same_side rose));
     })
 
 pub returns-in-Err : goal.returns-in-Err
 returns-in-Err g c = inl (record {
-  why = record { why = c.in-Err.trouble; refused = c.in-Err.ensures.refused; stopped = c.stop.ensures };
+  why = record { why = c.in-Err.trouble; refused = c.in-Err.ensures.refused; stopped = c.tell_trouble.ensures };
   input_same = refl;
   clock_same = refl;
 })

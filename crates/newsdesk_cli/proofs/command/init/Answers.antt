@@ -15,7 +15,7 @@ returns-in-Ok-false g c = inl (record {
   calm = c.in-Ok-false.ensures.count.calm;
   still = c.are_empty.ensures.still;
   still_side = c.are_empty.ensures.still_side;
-  stopped = c.stop.ensures;
+  stopped = c.tell_trouble.ensures;
 })
 
 pub returns-in-Err : goal.returns-in-Err
@@ -26,7 +26,7 @@ returns-in-Err g c =
       told = c.are_empty.ensures.still.told;
       crash = λ told. still_leaves d (IsInTheMaking (header.Room c.args.store)) c.args.log c.are_empty.new.log c.are_empty.ensures.still;
       still_side = c.are_empty.ensures.still_side;
-      stopped = c.stop-in-Err.ensures;
+      stopped = c.tell_trouble-in-Err.ensures;
     }))
 
 pub returns-in-Ok : goal.returns-in-Ok
@@ -60,5 +60,5 @@ returns-in-Err-create g c =
       told = λ told. c.in-Err-create.ensures.told_err (c.are_empty.ensures.still.told told);
       crash = λ told. made_leaves d (IsInTheMaking (header.Room c.args.store)) c.args.log c.are_empty.new.log c.in-Err-create.log c.are_empty.ensures.still (c.in-Err-create.ensures.crash_err (c.are_empty.ensures.still.told told) (c.are_empty.ensures.still.seen_same ∙ c.in-Ok-true.ensures.empty told c.in-Ok-true.field-0-test));
       still_side = c.are_empty.ensures.still_side;
-      stopped = c.stop-in-Err-create.ensures;
+      stopped = c.tell_trouble-in-Err-create.ensures;
     }))

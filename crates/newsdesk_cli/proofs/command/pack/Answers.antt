@@ -6,7 +6,7 @@ use Rattle.newsdesk_cli.proofs.Packing.{faults_are, counted, packs, packed_holds
 use Rattle.newsdesk_cli.proofs.command.pack.Goals as goal
 
 pub returns-in-Err : goal.returns-in-Err
-returns-in-Err g c = inl (record { why = c.in-Err.trouble; refused = c.in-Err.ensures.refused; stopped = c.stop.ensures })
+returns-in-Err g c = inl (record { why = c.in-Err.trouble; refused = c.in-Err.ensures.refused; stopped = c.tell_trouble.ensures })
 
 pub pack-requires : goal.pack-requires
 pack-requires g c = record { quiet = ap (pair_of g.D.Disk.disk).most_calls c.into_keeper.ensures ∙ c.in-Ok.ensures.opened.quiet }
@@ -52,5 +52,5 @@ returns-in-Err-pack g c =
       packs_not = packs_not d c.args.log c.args.side c.in-Ok.room opened k c.into_keeper.ensures log' side' why failed.crash_err failed.damage failed.full;
       files = unpacked_keeps d c.args.log c.args.side c.in-Ok.room opened k c.into_keeper.ensures log' side' failed.crash_err;
       counts = pack_counts d c.args.log c.args.side c.in-Ok.room opened k c.into_keeper.ensures (d.faults log' + d.faults side') why failed.fault;
-      stopped = subst (λ t. IsStopped g.O.Sink.sink t c.args.output.now c.stop-in-Err-pack.new.output c.stop-in-Err-pack.result) c.from.ensures c.stop-in-Err-pack.ensures;
+      stopped = subst (λ t. IsStopped g.O.Sink.sink t c.args.output.now c.tell_trouble-in-Err-pack.new.output c.tell_trouble-in-Err-pack.result) c.from.ensures c.tell_trouble-in-Err-pack.ensures;
     }))

@@ -7,7 +7,7 @@ use Rattle.newsdesk_cli.proofs.command.run.Goals as goal
 pub returns-in_default-clause-does : goal.returns-in_default-clause-does
 returns-in_default-clause-does g c =
     let none : job_of c.args.words.now ≡ None = sym c.read_words.ensures ∙ c.in_default.is in
-    rw none (record { input_same = refl; clock_same = refl }, record { same = refl; same_side = refl; refused = c.refuse_words.ensures })
+    rw none (record { input_same = refl; clock_same = refl }, record { same = refl; same_side = refl; refused = c.tell_usage.ensures })
 
 pub returns-in_default-clause-links : goal.returns-in_default-clause-links
 returns-in_default-clause-links g c = refl
