@@ -3,24 +3,20 @@
 
 use news_io::{FileDisk, Sink, StdClock, StdSink, StdSource, UnreachableLink, write_all};
 use news_types::{Memory, Text};
-use newsdesk_cli::{help_text, run, version_text};
+use newsdesk_cli::{command_help, help_texts, run, version_text};
+use progress::{Content, Meter, Watched};
+use run_status::Status;
 use std::alloc::Global;
 use std::fs::File;
-use std::io::ErrorKind;
+use std::io::{ErrorKind, IsTerminal};
 use std::process::ExitCode;
 use std::rt::{Env, Files};
 use std::time::Clock;
 use std::{env, io};
 
-/// The statuses that come before any command: a word that is not UTF-8, an output that fails, want of memory.
-const USAGE: u8 = 2;
-
-const WRITE_FAULT: u8 = 5;
-
-const NO_MEMORY: u8 = 9;
-
 fn main(rt: HostRuntime) -> ExitCode {
-    let status = start(&rt);
+    let shows = rt.stderr().is_terminal();
+    let status = start(&rt, shows);
     ExitCode::from(status)
 }
 
@@ -51,55 +47,87 @@ fn words_of<R: Env + AllocGlobal>(rt: &R) -> Result<Vec<Text>, NoWords> {
     Ok(words)
 }
 
-fn start<R: Files<File = File> + Env + Clock + Input + Print + AllocGlobal + Clone + Drop>(
+fn start<R: Files<File = File> + Env + Clock + Input + Print + Eprint + AllocGlobal + Clone + Drop>(
     rt: &R,
+    shows: bool,
 ) -> u8 {
     let alloc = rt.alloc();
     let words = match words_of(rt) {
         Ok(words) => words,
-        Err(NoWords::Faulty) => return USAGE,
-        Err(NoWords::Memory) => return NO_MEMORY,
+        Err(NoWords::Faulty) => return Status::Usage.number(),
+        Err(NoWords::Memory) => return Status::Memory.number(),
     };
     let Ok(mut output) = StdSink::new(alloc, io::writer(rt)) else {
-        return NO_MEMORY;
+        return Status::Memory.number();
     };
     if words.len() == 1 {
         match words[0].as_str() {
-            "--help" => return say(&mut output, help_text()),
-            "--version" => return say(&mut output, version_text()),
+            "--help" => return say(&mut output, &help_texts()),
+            "--version" => return say(&mut output, &[version_text()]),
             _ => {}
         }
     }
-    match run_words(rt, alloc, &words, &mut output) {
+    if words.len() == 2 && words[1].as_str() == "--help" {
+        if let Some(line) = command_help(words[0].as_str()) {
+            return say(&mut output, &[line]);
+        }
+    }
+    match run_words(rt, alloc, &words, &mut output, shows) {
         Ok(status) => status,
-        Err(Memory) => NO_MEMORY,
+        Err(Memory) => Status::Memory.number(),
     }
 }
 
-/// Writes a text to the output.
-fn say<O: Sink>(output: &mut O, text: &str) -> u8 {
-    if write_all(output, text.as_bytes()).is_err() || output.flush().is_err() {
-        return WRITE_FAULT;
+/// Writes texts to the output, one behind the other.
+fn say<O: Sink>(output: &mut O, texts: &[&str]) -> u8 {
+    for text in texts {
+        if write_all(output, text.as_bytes()).is_err() {
+            return Status::Output.number();
+        }
     }
-    0
+    if output.flush().is_err() {
+        return Status::Output.number();
+    }
+    Status::Done.number()
 }
 
-/// Makes the real objects, and runs the command.
-fn run_words<R: Files<File = File> + Clock + Input + AllocGlobal + Clone + Drop, O: Sink>(
+/// A meter of what is read, where it is to be shown.
+fn meter<R: Clock + Eprint + Clone>(
+    rt: &R,
+    shows: bool,
+    content: Content,
+) -> Result<Option<Meter<R>>, Memory> {
+    if !shows {
+        return Ok(None);
+    }
+    Ok(Some(Meter::new(rt.clone()?, content)))
+}
+
+/// Makes the real objects, and runs the command. Where `shows` is set, standard error shows how far the log and the input are read.
+fn run_words<R: Files<File = File> + Clock + Input + Eprint + AllocGlobal + Clone + Drop, O: Sink>(
     rt: &R,
     alloc: Global,
     words: &[Text],
     output: &mut O,
+    shows: bool,
 ) -> Result<u8, Memory> {
-    let mut input = StdSource::new(alloc, rt.reader())?;
+    let mut input = Watched::new(
+        StdSource::new(alloc, rt.reader())?,
+        meter(rt, shows, Content::Lines)?,
+    );
     let mut clock = StdClock::new(rt.clone()?);
     let log = FileDisk::new(rt.clone()?, path_of(alloc, words, "")?);
     let side = FileDisk::new(rt.clone()?, path_of(alloc, words, ".side")?);
+    let log = Watched::new(log, meter(rt, shows, Content::Binary)?);
+    let side = Watched::new(side, None);
     // No command reaches a receiver yet.
     let mut links: Vec<UnreachableLink> = Vec::new(alloc);
-    let (status, _, _) = run(
+    let (status, log, _) = run(
         alloc, words, &mut input, output, log, side, &mut clock, &mut links,
     );
+    if log.has_shown() || input.has_shown() {
+        let _ = eprintln!(rt);
+    }
     Ok(status)
 }
 
