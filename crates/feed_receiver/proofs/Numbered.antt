@@ -13,7 +13,7 @@ use Rattle.byte_formats.proofs.Laws.{ok_is, not_both}
 use Rattle.byte_formats.proofs.Whole.{all_takes, all_again, all_fault, all_within}
 use Rattle.feed_receiver.specs.Spelling.{frame_bytes, IsFrame}
 use Rattle.feed_receiver.specs.Formats.{frame}
-use Rattle.feed_receiver.specs.Feed.{IsNumber, AreNumber, InOrder, AreFrames, IsDamaged}
+use Rattle.feed_receiver.specs.Feed.{IsNumber, AreNumber, InOrder, AreFrames, HasBadFrame}
 use Rattle.feed_receiver.specs.Takes.{AreFrame}
 use Rattle.feed_receiver.proofs.Written.{frame_lawful, frame_length}
 
@@ -100,7 +100,7 @@ frames_on name records i r lt is a n =
     (frames_more name (take i records) r a (subst (λ (k : ℕ). AreNumber name (k + 1) r.bytes) long n))
 
 -- and the next one is not
-pub damaged_at : (name : Bytes) (records : List Record) (i : ℕ) (r : Record) → i < length records → r ≡ get_or records i r → AreFrames name (take i records) → (AreNumber name (i + 1) r.bytes → ⊥) → IsDamaged name records r.at
+pub damaged_at : (name : Bytes) (records : List Record) (i : ℕ) (r : Record) → i < length records → r ≡ get_or records i r → AreFrames name (take i records) → (AreNumber name (i + 1) r.bytes → ⊥) → HasBadFrame name records r.at
 damaged_at name records i r lt is a bad =
     let long : length (take i records) ≡ i = length-take-le i records (omega arith) in
     let after : drop i records ≡ r ∷ drop (i + 1) records = rw add-one (drop-cons records i r lt) ∙ ap (λ (x : Record). x ∷ drop (i + 1) records) (sym is) in

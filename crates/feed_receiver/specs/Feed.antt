@@ -32,7 +32,7 @@ pub record AreFrames (name : Bytes) (records : List Record) : Type 0 where
   pub are : payloads records ≡ map frame_bytes frames
 
 -- the first record that is not the frame of its number begins here
-pub record IsDamaged (name : Bytes) (records : List Record) (at : ℕ) : Type 0 where
+pub record HasBadFrame (name : Bytes) (records : List Record) (at : ℕ) : Type 0 where
   pub front : List Record
   pub bad : Record
   pub rest : List Record

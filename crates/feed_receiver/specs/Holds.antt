@@ -7,7 +7,7 @@ use Rattle.feed_receiver.specs.declared.receiver.Receiver.{Receiver}
 use Rattle.feed_receiver.specs.declared.receiver.ReceiverFault.{ReceiverFault}
 use Rattle.feed_receiver.specs.declared.receiver.ReceiverFault.TheVariants.{Damaged, Memory}
 use Rattle.feed_receiver.specs.Spelling.{frame_bytes}
-use Rattle.feed_receiver.specs.Feed.{AreNumber, InOrder, payloads, IsDamaged}
+use Rattle.feed_receiver.specs.Feed.{AreNumber, InOrder, payloads, HasBadFrame}
 use Rattle.news_io.specs.Keeper.{KeeperMeaning}
 
 -- a name, whether the keeper tells the list, and the accepted frames, oldest first
@@ -43,7 +43,7 @@ module _ {K : Type 0} (keeper : KeeperMeaning K) where
 
 -- a record is damaged; and opening takes no memory
 abbrev pub IsFault : Bytes → List Record → ReceiverFault → Type 0
-IsFault name records (Damaged at) = IsDamaged name records at
+IsFault name records (Damaged at) = HasBadFrame name records at
 IsFault name records Memory = ⊥
 
 -- the keeper is given back with the fault

@@ -4,7 +4,7 @@ ghost use Rattle.std.specs.Prelude.{◌≡◌, ◌+◌, ◌≤◌, ◌<◌, ℕ,
 ghost use Rattle.news_types.specs.Frames.{Frame};
 ghost use Rattle.news_io.specs.Keeper.{framed, BeforeOrAfter, KeeperGains};
 ghost use Rattle.feed_receiver.specs.Spelling.{receipt_bytes};
-ghost use Rattle.feed_receiver.specs.Feed.{AreNumber, AreFrames, IsDamaged};
+ghost use Rattle.feed_receiver.specs.Feed.{AreNumber, AreFrames, HasBadFrame};
 
 use crate::frame::whole_frame;
 use crate::line::Line;
@@ -84,7 +84,7 @@ fn is_number(name: &Name, k: u64, bytes: &[u8]) -> bool
 
 /// Where the first record begins that is not the frame of its number.
 fn damage(name: &Name, records: &[Record]) -> Option<u64>
-    ensures { MatchOption result (AreFrames name.now records.now) (λ at. IsDamaged name.now records.now at) }
+    ensures { MatchOption result (AreFrames name.now records.now) (λ at. HasBadFrame name.now records.now at) }
 {
     for (i, kept) in records.iter().enumerate() {
         if !is_number(name, i as u64 + 1, kept.bytes.as_slice()) {

@@ -1,0 +1,6 @@
+mod Named
+mod Answering
+mod Worlds
+mod Turning
+mod Exchanging
+mod Draining
