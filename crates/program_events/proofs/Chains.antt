@@ -1,0 +1,261 @@
+-- Runs and crashes, one behind the other, are events of one world.
+use Rattle.std.proofs.Common.{◌≡◌, ◌⊎◌, inl, inr, ℕ, List, [], ◌∷◌, ◌++◌, length, Option, Some, None, refl, sym, ap, ◌∙◌, subst, append-nil}
+use Rattle.news_types.specs.declared.words.Format.TheVariants.{Ninjs, Text7901}
+use Rattle.news_types.specs.Books.{Book}
+use Rattle.news_types.specs.declared.entry.Entry.{Entry}
+use Rattle.news_types.specs.Names.{Bytes}
+use Rattle.news_types.specs.History.{History}
+use Rattle.news_types.specs.Frames.{Writer}
+use Rattle.news_io.specs.Clock.{ClockMeaning}
+use Rattle.news_io.specs.Disk.{DiskMeaning}
+use Rattle.news_io.specs.Left.{IsLeft, Between}
+use Rattle.news_io.specs.Sink.{SinkMeaning}
+use Rattle.news_io.specs.Source.{SourceMeaning}
+use Rattle.news_pair.specs.declared.pair.Pair.{Pair}
+use Rattle.news_room.specs.declared.room.Room.{Room}
+use Rattle.news_pair.specs.Keeper.{pair_of}
+use Rattle.news_pair.specs.Stands.{log_disk, side_disk}
+use Rattle.news_room.specs.Stands.{in_doubt}
+use Rattle.store_files.specs.Files.{Files, OpenTo, OpenAlike, MayLeave, LeftSince}
+use Rattle.world_laws.specs.World.{World, Event, Reopens, opening, reopened, happens, run}
+use Rattle.world_laws.proofs.Headline.{headline_holds}
+use Rattle.newsdesk_cli.specs.Command.{HasAnswered}
+use Rattle.newsdesk_cli.specs.declared.words.Job.TheVariants as job
+use Rattle.newsdesk_cli.specs.FilesLeft.{NoneInDoubt, FilesLeft}
+use Rattle.program_events.specs.Events.{Input, line_input}
+use Rattle.program_events.specs.Stories.{wire_input, item_input}
+use Rattle.program_events.specs.Runs.{RunHappened, AnswersAreEvents}
+use Rattle.program_events.specs.Chains.{Did, Batch, Ingest, Check, Pack, Run, LeftByRun, MayCrash, IsLeftBy, AreLeft, FollowOneAnother, world, AreOfAnswers, AreOfRun, AreOfRuns, ComesTo, ChainsAreEvents}
+use Rattle.program_events.proofs.Turns.{run_on}
+use Rattle.program_events.proofs.Runs.{are_events}
+use Rattle.program_events.proofs.Stores.{one_history, alike, to_both, refused_keeps, opened_keeps, packed_within, counts_since}
+
+-- ---- a world behind an opening
+
+world_on : (write : Writer) (first second : List Event) → world write (first ++ second) ≡ run write second (world write first)
+world_on write first second = run_on write first second opening
+
+module _ {D S O C : Type 0} (disk : DiskMeaning D) (clock : ClockMeaning C) (source : SourceMeaning S) (sink : SinkMeaning O) (write : Writer) (store : Bytes) (long : length store ≡ 16) where
+  abbrev Runs : Type 0
+  Runs = List (Run disk clock source sink)
+
+  abbrev Comes : Runs → Files → Type 0
+  Comes runs files = ComesTo disk clock source sink write store runs files
+
+  abbrev Left : Runs → Files → Type 0
+  Left runs files = AreLeft disk clock source sink store runs files
+
+  -- an opening behind events, of which the headline holds
+  comes_to : (runs : Runs) (files : Files) (events : List Event) → AreOfRuns disk clock source sink write runs events → (which : Option ℕ) → OpenTo store files (happens write (world write events) (Reopens which)).server.list → Comes runs files
+  comes_to runs files events of_runs which opens = record {
+    events = events;
+    of_runs = of_runs;
+    which = which;
+    opens = subst (λ (v : World). OpenTo store files v.server.list) (sym (world_on write events (Reopens which ∷ []))) opens;
+    headline = headline_holds write (events ++ Reopens which ∷ []);
+  }
+
+  -- a new store
+  none_ran : (files : Files) → OpenTo store files [] → Comes [] files
+  none_ran files opens = comes_to [] files [] refl None opens
+
+  -- an input that was answered is events of each world that has the list, and these are those of its run
+  abbrev Shown : {X : Type 0} → Input X → {Answered : Room (Pair D) → Room (Pair D) → Book → Type 0} → (r : Run disk clock source sink) → HasAnswered disk clock source sink r.log r.log' r.side r.side' r.input r.input' r.output r.output' r.clock_was r.clock_is r.status Answered → Type 0
+  Shown input r a = AnswersAreEvents disk clock source sink r.log r.log' r.side r.side' r.input r.input' r.output r.output' r.clock_was r.clock_is r.status input a
+
+  abbrev IsOfRun : {X : Type 0} → Input X → {Answered : Room (Pair D) → Room (Pair D) → Book → Type 0} → (r : Run disk clock source sink) → HasAnswered disk clock source sink r.log r.log' r.side r.side' r.input r.input' r.output r.output' r.clock_was r.clock_is r.status Answered → Type 0
+  IsOfRun input r a = (before events : List Event) → AreOfAnswers disk clock source sink input r a write before events → AreOfRun disk clock source sink write before r r.did events
+
+  -- ---- members that were answered, from files that come to the list of a world
+
+  module _ {X : Type 0} (input : Input X) {Answered : Room (Pair D) → Room (Pair D) → Book → Type 0} (r : Run disk clock source sink) (a : HasAnswered disk clock source sink r.log r.log' r.side r.side' r.input r.input' r.output r.output' r.clock_was r.clock_is r.status Answered) (shown : Shown input r a) (of_run : IsOfRun input r a)
+      (runs : Runs) (before : Comes runs (disk.seen r.log, disk.seen r.side)) where
+    abbrev start : World
+    start = world write (before.events ++ Reopens before.which ∷ [])
+
+    same : (store ≡ a.opened.store) × (start.server.list ≡ a.opened.history)
+    same = one_history store a.opened.store long a.opened.long (disk.seen r.log, disk.seen r.side) start.server.list a.opened.history before.opens (a.opened.bytes r.tells r.tells_side)
+
+    abbrev left : FilesLeft disk r.log r.side a.opened.store a.room a.after a.opened.history r.status
+    left = a.files r.tells r.tells_side
+
+    abbrev HasHappened : List Event → Type 0
+    HasHappened events = RunHappened input clock source sink write start r.input r.input' r.output r.output' r.clock_was r.clock_is r.status left.list (in_doubt (pair_of disk) a.after) events
+
+    did : (events : List Event) × HasHappened events
+    did = shown r.tells r.tells_side write start same.1
+
+    -- the first of its events, of which a crash has undone the rest
+    some_ran : (files : Files) (events undone : List Event) → did.0 ≡ events ++ undone → (r.crashed ≡ None → undone ≡ []) → (which : Option ℕ) → OpenTo store files (happens write (run write events start) (Reopens which)).server.list → Comes (r ∷ runs) files
+    some_ran files events undone all whole which opens =
+        comes_to (r ∷ runs) files ((before.events ++ Reopens before.which ∷ []) ++ events) (
+          before.events,
+          before.of_runs,
+          of_run before.events ((before.events ++ Reopens before.which ∷ []) ++ events) (inr (before.which, events, refl, record { undone = undone; whole = whole; happened = subst HasHappened all did.1 })),
+        )
+        which (subst (λ (v : World). OpenTo store files (happens write v (Reopens which)).server.list) (sym (world_on write (before.events ++ Reopens before.which ∷ []) events)) opens)
+
+    -- all of them, where the files open to the last list, or to it and one in doubt
+    all_ran : (files : Files) → IsLeft (OpenTo a.opened.store) left.list (in_doubt (pair_of disk) a.after) files → Comes (r ∷ runs) files
+    all_ran files (inl opens) =
+        some_ran files did.0 [] (sym (append-nil did.0)) (λ none. refl) None
+        (subst (λ (h : History). OpenTo store files h) (sym did.1.lead.list) (subst (λ (s : Bytes). OpenTo s files left.list) (sym same.0) opens))
+    all_ran files (inr one) =
+        let e : Entry = one.0 in
+        let at = did.1.doubt e one.1 in
+        some_ran files did.0 [] (sym (append-nil did.0)) (λ none. refl) (Some at.0)
+        (subst (λ (found : Option Entry). OpenTo store files (reopened (run write did.0 start).server found).list) (sym at.1)
+        (subst (λ (h : History). OpenTo store files (e ∷ h)) (sym did.1.lead.list) (subst (λ (s : Bytes). OpenTo s files (e ∷ left.list)) (sym same.0) one.2)))
+
+    -- the first few of them, where a crash has left the files so
+    few_ran : (files : Files) → (r.crashed ≡ None → ⊥) → Between (OpenTo a.opened.store) a.opened.history left.list NoneInDoubt (in_doubt (pair_of disk) a.after) files → Comes (r ∷ runs) files
+    few_ran files crash b = by b.left
+      where
+        by : IsLeft (OpenTo a.opened.store) b.part (λ e. ((b.part ≡ a.opened.history) × NoneInDoubt e) ⊎ ((b.part ≡ left.list) × in_doubt (pair_of disk) a.after e)) files → Comes (r ∷ runs) files
+        by (inl opens) =
+            let f = did.1.lead.each b.within.0 b.part b.behind.0 (b.behind.1 ∙ ap (λ (h : History). b.behind.0 ++ h) (sym same.1)) b.within.1 in
+            some_ran files f.front f.rest f.events_are (λ none. absurd (crash none)) None
+            (subst (λ (h : History). OpenTo store files h) (sym f.list) (subst (λ (s : Bytes). OpenTo s files b.part) (sym same.0) opens))
+        by (inr one) = elim one.1 [
+          | inl at_first ↦ absurd at_first.1
+          | inr at_last ↦ all_ran files (inr (one.0, at_last.1, subst (λ (h : History). OpenTo a.opened.store files (one.0 ∷ h)) at_last.0 one.2))
+        ]
+
+    -- a crash has left the files as they were
+    none_left : (crash : r.crashed ≡ None → ⊥) (files others : Files) → Comes runs others → OpenAlike store others files → Comes (r ∷ runs) files
+    none_left crash files others c same_files = record {
+      events = c.events;
+      of_runs = (c.events, c.of_runs, of_run c.events c.events (inl (crash, refl)));
+      which = c.which;
+      opens = alike store others files (world write (c.events ++ Reopens c.which ∷ [])).server.list c.opens same_files;
+      headline = c.headline;
+    }
+
+  -- ---- a run more, where all files before it come to lists of a world
+
+  module _ (r : Run disk clock source sink) (runs : Runs) (begins : (files : Files) → MayLeave disk r.log r.side files → Left runs files) (before : (files : Files) → Left runs files → Comes runs files) where
+    from : Comes runs (disk.seen r.log, disk.seen r.side)
+    from = before (disk.seen r.log, disk.seen r.side) (begins (disk.seen r.log, disk.seen r.side) (disk.leaves_seen r.log r.tells, disk.leaves_seen r.side r.tells_side))
+
+    abbrev list : History
+    list = (world write (from.events ++ Reopens from.which ∷ [])).server.list
+
+    abbrev TheDid : Type 0
+    TheDid = Did disk clock source sink r.log r.log' r.side r.side' r.input r.input' r.output r.output' r.clock_was r.clock_is r.status
+
+    -- a run that is no event: the files open as some of those before it
+    as_before : ((write : Writer) (events : List Event) → AreOfRun disk clock source sink write events r r.did events) → (files : Files) → (others : Files) × MayLeave disk r.log r.side others × OpenAlike store others files → Comes (r ∷ runs) files
+    as_before no_event files was =
+        let c = before was.0 (begins was.0 was.1) in
+        record {
+          events = c.events;
+          of_runs = (c.events, c.of_runs, no_event write c.events);
+          which = c.which;
+          opens = alike store was.0 files (world write (c.events ++ Reopens c.which ∷ [])).server.list c.opens was.2;
+          headline = c.headline;
+        }
+
+    -- ---- lines were answered
+
+    module _ {X : Type 0} (input : Input X) {Answered : Room (Pair D) → Room (Pair D) → Book → Type 0} (a : HasAnswered disk clock source sink r.log r.log' r.side r.side' r.input r.input' r.output r.output' r.clock_was r.clock_is r.status Answered) (shown : Shown input r a) (of_run : IsOfRun input r a) where
+      answered_left : (files : Files) → MayLeave disk r.log' r.side' files → Comes (r ∷ runs) files
+      answered_left files may =
+          let there = subst (λ (d : D). disk.may_leave d files.0) a.same may.0 in
+          let there' = subst (λ (d : D). disk.may_leave d files.1) a.same_side may.1 in
+          all_ran input r a shown of_run runs from files ((a.files r.tells r.tells_side).now files (inr there, inr there'))
+
+      answered_crashed : (files : Files) → (r.crashed ≡ None → ⊥) → LeftSince disk r.log' r.side' (disk.moment r.log) files → Comes (r ∷ runs) files
+      answered_crashed files crash may =
+          let there = subst (λ (d : D). disk.left_since d (disk.moment r.log) files.0) a.same may.0 in
+          let there' = subst (λ (d : D). disk.may_leave d files.1) a.same_side may.1 in
+          elim ((a.files r.tells r.tells_side).since_begun files (there, there')) [
+            | inl between ↦ few_ran input r a shown of_run runs from files crash between
+            | inr was ↦ none_left input r a shown of_run runs from crash files was.0 (before was.0 (begins was.0 was.1)) (subst (λ (s : Bytes). OpenAlike s was.0 files) (sym (same input r a shown of_run runs from).0) was.2)
+          ]
+
+    -- ---- by what the run did
+
+    left_now : (d : TheDid) → r.did ≡ d → (files : Files) → MayLeave disk r.log' r.side' files → Comes (r ∷ runs) files
+    left_now (Batch (inr a)) is files may = answered_left line_input a (are_events disk clock source sink r.log r.log' r.side r.side' r.input r.input' r.output r.output' r.clock_was r.clock_is r.status (Some job.Batch) (inr a)) (λ events these x. subst (λ (d : TheDid). AreOfRun disk clock source sink write events r d these) (sym is) x) files may
+    left_now (Ingest Text7901 provider (inr a)) is files may = answered_left (wire_input provider) a (are_events disk clock source sink r.log r.log' r.side r.side' r.input r.input' r.output r.output' r.clock_was r.clock_is r.status (Some (job.Ingest Text7901 provider)) (inr a)) (λ events these x. subst (λ (d : TheDid). AreOfRun disk clock source sink write events r d these) (sym is) x) files may
+    left_now (Ingest Ninjs provider (inr a)) is files may = answered_left (item_input provider) a (are_events disk clock source sink r.log r.log' r.side r.side' r.input r.input' r.output r.output' r.clock_was r.clock_is r.status (Some (job.Ingest Ninjs provider)) (inr a)) (λ events these x. subst (λ (d : TheDid). AreOfRun disk clock source sink write events r d these) (sym is) x) files may
+    left_now (Batch (inl refused)) is files may =
+        as_before (λ v events. subst (λ (d : TheDid). AreOfRun disk clock source sink v events r d events) (sym is) refl) files
+        (refused_keeps disk store long r.log r.side list r.tells r.tells_side from.opens r.log' r.side' refused.why.why refused.why.refused files (counts_since disk r.log r.log' (refused.why.refused.crash r.tells r.tells_side).later r.side' files may))
+    left_now (Ingest Text7901 provider (inl refused)) is files may =
+        as_before (λ v events. subst (λ (d : TheDid). AreOfRun disk clock source sink v events r d events) (sym is) refl) files
+        (refused_keeps disk store long r.log r.side list r.tells r.tells_side from.opens r.log' r.side' refused.why.why refused.why.refused files (counts_since disk r.log r.log' (refused.why.refused.crash r.tells r.tells_side).later r.side' files may))
+    left_now (Ingest Ninjs provider (inl refused)) is files may =
+        as_before (λ v events. subst (λ (d : TheDid). AreOfRun disk clock source sink v events r d events) (sym is) refl) files
+        (refused_keeps disk store long r.log r.side list r.tells r.tells_side from.opens r.log' r.side' refused.why.why refused.why.refused files (counts_since disk r.log r.log' (refused.why.refused.crash r.tells r.tells_side).later r.side' files may))
+    left_now (Check (inl refused)) is files may =
+        as_before (λ v events. subst (λ (d : TheDid). AreOfRun disk clock source sink v events r d events) (sym is) refl) files
+        (refused_keeps disk store long r.log r.side list r.tells r.tells_side from.opens r.log' r.side' refused.why refused.refused files (counts_since disk r.log r.log' (refused.refused.crash r.tells r.tells_side).later r.side' files may))
+    left_now (Check (inr c)) is files may =
+        as_before (λ v events. subst (λ (d : TheDid). AreOfRun disk clock source sink v events r d events) (sym is) refl) files (
+          (disk.seen r.log, disk.seen r.side),
+          (disk.leaves_seen r.log r.tells, disk.leaves_seen r.side r.tells_side),
+          to_both store long (disk.seen r.log, disk.seen r.side) files list c.opened.store c.opened.long c.opened.history from.opens (c.opened.bytes r.tells r.tells_side) (c.files r.tells r.tells_side files (inr may.0, inr may.1)),
+        )
+    left_now (Pack (inl refused)) is files may =
+        as_before (λ v events. subst (λ (d : TheDid). AreOfRun disk clock source sink v events r d events) (sym is) refl) files
+        (refused_keeps disk store long r.log r.side list r.tells r.tells_side from.opens r.log' r.side' refused.why refused.refused files (counts_since disk r.log r.log' (refused.refused.crash r.tells r.tells_side).later r.side' files may))
+    left_now (Pack (inr (inl p))) is files may =
+        as_before (λ v events. subst (λ (d : TheDid). AreOfRun disk clock source sink v events r d events) (sym is) refl) files (
+          (disk.seen r.log, disk.seen r.side),
+          (disk.leaves_seen r.log r.tells, disk.leaves_seen r.side r.tells_side),
+          to_both store long (disk.seen r.log, disk.seen r.side) files list p.opened.store p.opened.long p.opened.history from.opens (p.opened.bytes r.tells r.tells_side) (p.files r.tells r.tells_side files (inr may.0, inr may.1)),
+        )
+    left_now (Pack (inr (inr p))) is files may =
+        as_before (λ v events. subst (λ (d : TheDid). AreOfRun disk clock source sink v events r d events) (sym is) refl) files (
+          (disk.seen r.log, disk.seen r.side),
+          (disk.leaves_seen r.log r.tells, disk.leaves_seen r.side r.tells_side),
+          to_both store long (disk.seen r.log, disk.seen r.side) files list p.opened.store p.opened.long p.opened.history from.opens (p.opened.bytes r.tells r.tells_side) (p.files r.tells r.tells_side files may),
+        )
+
+    left_then : (d : TheDid) → r.did ≡ d → (r.crashed ≡ None → ⊥) → (files : Files) → LeftByRun disk clock source sink r d files → Comes (r ∷ runs) files
+    left_then (Batch (inr a)) is crash files may = answered_crashed line_input a (are_events disk clock source sink r.log r.log' r.side r.side' r.input r.input' r.output r.output' r.clock_was r.clock_is r.status (Some job.Batch) (inr a)) (λ events these x. subst (λ (d : TheDid). AreOfRun disk clock source sink write events r d these) (sym is) x) files crash may
+    left_then (Ingest Text7901 provider (inr a)) is crash files may = answered_crashed (wire_input provider) a (are_events disk clock source sink r.log r.log' r.side r.side' r.input r.input' r.output r.output' r.clock_was r.clock_is r.status (Some (job.Ingest Text7901 provider)) (inr a)) (λ events these x. subst (λ (d : TheDid). AreOfRun disk clock source sink write events r d these) (sym is) x) files crash may
+    left_then (Ingest Ninjs provider (inr a)) is crash files may = answered_crashed (item_input provider) a (are_events disk clock source sink r.log r.log' r.side r.side' r.input r.input' r.output r.output' r.clock_was r.clock_is r.status (Some (job.Ingest Ninjs provider)) (inr a)) (λ events these x. subst (λ (d : TheDid). AreOfRun disk clock source sink write events r d these) (sym is) x) files crash may
+    left_then (Batch (inl refused)) is crash files may =
+        as_before (λ v events. subst (λ (d : TheDid). AreOfRun disk clock source sink v events r d events) (sym is) refl) files
+        (refused_keeps disk store long r.log r.side list r.tells r.tells_side from.opens r.log' r.side' refused.why.why refused.why.refused files may)
+    left_then (Ingest Text7901 provider (inl refused)) is crash files may =
+        as_before (λ v events. subst (λ (d : TheDid). AreOfRun disk clock source sink v events r d events) (sym is) refl) files
+        (refused_keeps disk store long r.log r.side list r.tells r.tells_side from.opens r.log' r.side' refused.why.why refused.why.refused files may)
+    left_then (Ingest Ninjs provider (inl refused)) is crash files may =
+        as_before (λ v events. subst (λ (d : TheDid). AreOfRun disk clock source sink v events r d events) (sym is) refl) files
+        (refused_keeps disk store long r.log r.side list r.tells r.tells_side from.opens r.log' r.side' refused.why.why refused.why.refused files may)
+    left_then (Check (inl refused)) is crash files may =
+        as_before (λ v events. subst (λ (d : TheDid). AreOfRun disk clock source sink v events r d events) (sym is) refl) files
+        (refused_keeps disk store long r.log r.side list r.tells r.tells_side from.opens r.log' r.side' refused.why refused.refused files may)
+    left_then (Check (inr c)) is crash files may =
+        as_before (λ v events. subst (λ (d : TheDid). AreOfRun disk clock source sink v events r d events) (sym is) refl) files
+        (opened_keeps disk store long r.log r.side list r.tells r.tells_side from.opens c.room c.opened files
+        (subst (λ (d : D). disk.left_since d (disk.moment r.log) files.0) c.same may.0, subst (λ (d : D). disk.may_leave d files.1) c.same_side may.1))
+    left_then (Pack (inl refused)) is crash files may =
+        as_before (λ v events. subst (λ (d : TheDid). AreOfRun disk clock source sink v events r d events) (sym is) refl) files
+        (refused_keeps disk store long r.log r.side list r.tells r.tells_side from.opens r.log' r.side' refused.why refused.refused files may)
+    left_then (Pack (inr (inl p))) is crash files may =
+        as_before (λ v events. subst (λ (d : TheDid). AreOfRun disk clock source sink v events r d events) (sym is) refl) files
+        (elim may [
+          | inl opening_it ↦ opened_keeps disk store long r.log r.side list r.tells r.tells_side from.opens p.room p.opened files opening_it
+          | inr packing_it ↦ packed_within disk store long r.log r.side list r.tells r.tells_side from.opens p.room p.opened (log_disk p.pair) (side_disk p.pair) (p.packs r.tells r.tells_side).crash files packing_it
+        ])
+    left_then (Pack (inr (inr p))) is crash files may =
+        as_before (λ v events. subst (λ (d : TheDid). AreOfRun disk clock source sink v events r d events) (sym is) refl) files
+        (elim may [
+          | inl opening_it ↦ opened_keeps disk store long r.log r.side list r.tells r.tells_side from.opens p.room p.opened files opening_it
+          | inr packing_it ↦ packed_within disk store long r.log r.side list r.tells r.tells_side from.opens p.room p.opened r.log' r.side' (p.packs_not r.tells r.tells_side).crash files packing_it
+        ])
+
+    run_more : (files : Files) (crashed : Option Files) → r.crashed ≡ crashed → MayCrash disk clock source sink r crashed → IsLeftBy disk clock source sink r crashed files → Comes (r ∷ runs) files
+    run_more files None is may left = left_now r.did refl files left
+    run_more files (Some found) is may left = subst (Comes (r ∷ runs)) (sym left) (left_then r.did refl (λ none. cc (sym is ∙ none)) found may)
+
+  runs_come : (runs : Runs) → FollowOneAnother disk clock source sink store runs → (files : Files) → Left runs files → Comes runs files
+  runs_come [] follow files left = none_ran files left
+  runs_come (r ∷ runs) follow files left = run_more r runs follow.0 (λ others there. runs_come runs follow.2 others there) files r.crashed refl follow.1 left
+
+pub chains_are_events : {D S O C : Type 0} (disk : DiskMeaning D) (clock : ClockMeaning C) (source : SourceMeaning S) (sink : SinkMeaning O) → ChainsAreEvents disk clock source sink
+chains_are_events disk clock source sink = λ store long runs follow write files left. runs_come disk clock source sink write store long runs follow files left

@@ -1,0 +1,10 @@
+pub mod Members
+pub mod Lines
+pub mod Turns
+pub mod Stories
+pub mod Begun
+pub mod Leading
+pub mod Happening
+pub mod Runs
+pub mod Stores
+pub mod Chains

@@ -1,0 +1,153 @@
+-- Runs of the program and crashes, one behind the other, as one list of events from the opening on.
+use Rattle.std.specs.Prelude.{◌≡◌, ◌⊎◌, ℕ, List, [], ◌∷◌, ◌++◌, length, Option, Some, None}
+use Rattle.std.proofs.Common.{inl, inr}
+use Rattle.news_types.specs.declared.words.Format.{Format}
+use Rattle.news_types.specs.declared.words.Format.TheVariants.{Ninjs, Text7901}
+use Rattle.news_types.specs.Books.{Book}
+use Rattle.news_types.specs.Doubt.{payloads}
+use Rattle.news_types.specs.Names.{Bytes}
+use Rattle.news_types.specs.Frames.{Writer}
+use Rattle.entry_codec.specs.Spelling.{entry_bytes}
+use Rattle.news_io.specs.Clock.{ClockMeaning}
+use Rattle.news_io.specs.Disk.{DiskMeaning}
+use Rattle.news_io.specs.Sink.{SinkMeaning}
+use Rattle.news_io.specs.Source.{SourceMeaning}
+use Rattle.news_pair.specs.declared.pair.Pair.{Pair}
+use Rattle.news_room.specs.declared.room.Room.{Room}
+use Rattle.news_pair.specs.Keeper.{pair_of}
+use Rattle.news_pair.specs.Stands.{log_disk, side_disk}
+use Rattle.news_pair.specs.Steps.{Stays}
+use Rattle.news_pair.specs.Steps.Stays.{as_they_are, side_written, log_written}
+use Rattle.news_room.specs.Stands.{in_doubt}
+use Rattle.store_files.specs.Files.{Files, OpenTo, MayLeave, LeftSince}
+use Rattle.world_laws.specs.Headline.{Headline}
+use Rattle.world_laws.specs.World.{World, Event, Reopens, happens, after}
+use Rattle.newsdesk_cli.specs.Command.{HasAnswered, IsBatch, IsIngest, IsCheck, IsPack, IsMade}
+use Rattle.program_events.specs.Events.{Input, line_input}
+use Rattle.program_events.specs.Stories.{wire_input, item_input}
+use Rattle.program_events.specs.Runs.{RunHappened}
+
+-- ---- a crash within packing
+
+module _ {D : Type 0} (disk : DiskMeaning D) (store : Bytes) (h : List Bytes) (log side : D) where
+  -- what a crash may leave at some moment of calls that each write to one of the files
+  abbrev pub LeftWithin : {log' side' : D} → Stays disk store h log side log' side' → Files → Type 0
+  LeftWithin as_they_are files = MayLeave disk log side files
+  LeftWithin (side_written {log' = log'} {side' = side'} {next = next} before step) files = LeftWithin before files ⊎ (disk.may_leave log' files.0 × disk.left_since next (disk.moment side') files.1)
+  LeftWithin (log_written {log' = log'} {side' = side'} {next = next} before step) files = LeftWithin before files ⊎ (disk.left_since next (disk.moment log') files.0 × disk.may_leave side' files.1)
+
+-- the world behind events from the opening on
+abbrev pub world : Writer → List Event → World
+world write events = after (happens write) events
+
+-- ---- a run
+
+module _ {D S O C : Type 0} (disk : DiskMeaning D) (clock : ClockMeaning C) (source : SourceMeaning S) (sink : SinkMeaning O) where
+  -- what a command did, by its contract
+  pub data Did (log log' side side' : D) (i i' : S) (o o' : O) (c c' : C) (status : ℕ) : Type 0 where
+    Batch : IsBatch disk clock source sink log log' side side' i i' o o' c c' status → Did log log' side side' i i' o o' c c' status
+    Ingest : (format : Format) (provider : Bytes) → IsIngest disk clock source sink log log' side side' i i' o o' c c' status format provider → Did log log' side side' i i' o o' c c' status
+    Check : IsCheck disk sink log log' side side' o o' status → Did log log' side side' i i' o o' c c' status
+    Pack : IsPack disk sink log log' side side' o o' status → Did log log' side side' i i' o o' c c' status
+
+  -- a run on files that tell what they hold; and what a crash left of them, where one came within the run or behind it
+  pub record Run : Type 0 where
+    pub log : D
+    pub log' : D
+    pub side : D
+    pub side' : D
+    pub input : S
+    pub input' : S
+    pub output : O
+    pub output' : O
+    pub clock_was : C
+    pub clock_is : C
+    pub status : ℕ
+    pub tells : disk.tells log
+    pub tells_side : disk.tells side
+    pub did : Did log log' side side' input input' output output' clock_was clock_is status
+    pub crashed : Option Files
+
+  -- what a crash may leave while a list is packed, from the files' opening on
+  abbrev pub LeftByPacking : (r : Run) → IsPack disk sink r.log r.log' r.side r.side' r.output r.output' r.status → Files → Type 0
+  LeftByPacking r (inl refused) files = LeftSince disk r.log' r.side' (disk.moment r.log) files
+  LeftByPacking r (inr (inl p)) files =
+      LeftSince disk (log_disk p.room.keeper) (side_disk p.room.keeper) (disk.moment r.log) files
+      ⊎ LeftWithin disk p.opened.store (payloads entry_bytes p.opened.history) (log_disk p.room.keeper) (side_disk p.room.keeper) (p.packs r.tells r.tells_side).crash files
+  LeftByPacking r (inr (inr p)) files =
+      LeftSince disk (log_disk p.room.keeper) (side_disk p.room.keeper) (disk.moment r.log) files
+      ⊎ LeftWithin disk p.opened.store (payloads entry_bytes p.opened.history) (log_disk p.room.keeper) (side_disk p.room.keeper) (p.packs_not r.tells r.tells_side).crash files
+
+  -- what a crash may leave at some moment since the run began
+  abbrev pub LeftByRun : (r : Run) → Did r.log r.log' r.side r.side' r.input r.input' r.output r.output' r.clock_was r.clock_is r.status → Files → Type 0
+  LeftByRun r (Batch did) files = LeftSince disk r.log' r.side' (disk.moment r.log) files
+  LeftByRun r (Ingest format provider did) files = LeftSince disk r.log' r.side' (disk.moment r.log) files
+  LeftByRun r (Check did) files = LeftSince disk r.log' r.side' (disk.moment r.log) files
+  LeftByRun r (Pack did) files = LeftByPacking r did files
+
+  abbrev pub MayCrash : Run → Option Files → Type 0
+  MayCrash r None = Unit {0}
+  MayCrash r (Some files) = LeftByRun r r.did files
+
+  -- the files behind a run: those that a crash left; without one, whatever a crash may leave now, and so what a read gives
+  abbrev pub IsLeftBy : Run → Option Files → Files → Type 0
+  IsLeftBy r None files = MayLeave disk r.log' r.side' files
+  IsLeftBy r (Some found) files = files ≡ found
+
+  -- the files behind these runs, the newest first: before any run they open to the empty list
+  abbrev pub AreLeft : Bytes → List Run → Files → Type 0
+  AreLeft store [] files = OpenTo store files []
+  AreLeft store (r ∷ runs) files = IsLeftBy r r.crashed files
+
+  -- each run begins with files that the one before has left, and a crash leaves what it may
+  abbrev pub FollowOneAnother : Bytes → List Run → Type 0
+  FollowOneAnother store [] = Unit {0}
+  FollowOneAnother store (r ∷ runs) = ((files : Files) → MayLeave disk r.log r.side files → AreLeft store runs files) × MayCrash r r.crashed × FollowOneAnother store runs
+
+  -- ---- its events
+
+  -- what a run over an input did, from a world on: these events, and others that a crash has undone
+  module _ {X : Type 0} (input : Input X) {Answered : Room (Pair D) → Room (Pair D) → Book → Type 0} (r : Run)
+      (did : HasAnswered disk clock source sink r.log r.log' r.side r.side' r.input r.input' r.output r.output' r.clock_was r.clock_is r.status Answered) where
+    pub record RunDid (write : Writer) (w : World) (events : List Event) : Type 0 where
+      pub undone : List Event
+      pub whole : r.crashed ≡ None → undone ≡ []
+      pub happened : RunHappened input clock source sink write w r.input r.input' r.output r.output' r.clock_was r.clock_is r.status (did.files r.tells r.tells_side).list (in_doubt (pair_of disk) did.after) (events ++ undone)
+
+    -- the files were opened as one of the doubt or none says, and then the run did what it did; or a crash has left them as they were
+    abbrev pub AreOfAnswers : Writer → List Event → List Event → Type 0
+    AreOfAnswers write before events = ((r.crashed ≡ None → ⊥) × (events ≡ before))
+        ⊎ ((which : Option ℕ) × (these : List Event) × (events ≡ (before ++ Reopens which ∷ []) ++ these) × RunDid write (world write (before ++ Reopens which ∷ [])) these)
+
+  -- any other run is no event
+  abbrev pub AreOfRun : Writer → List Event → (r : Run) → Did r.log r.log' r.side r.side' r.input r.input' r.output r.output' r.clock_was r.clock_is r.status → List Event → Type 0
+  AreOfRun write before r (Batch (inr did)) events = AreOfAnswers line_input r did write before events
+  AreOfRun write before r (Batch (inl refused)) events = events ≡ before
+  AreOfRun write before r (Ingest Text7901 provider (inr did)) events = AreOfAnswers (wire_input provider) r did write before events
+  AreOfRun write before r (Ingest Text7901 provider (inl refused)) events = events ≡ before
+  AreOfRun write before r (Ingest Ninjs provider (inr did)) events = AreOfAnswers (item_input provider) r did write before events
+  AreOfRun write before r (Ingest Ninjs provider (inl refused)) events = events ≡ before
+  AreOfRun write before r (Check did) events = events ≡ before
+  AreOfRun write before r (Pack did) events = events ≡ before
+
+  -- events of runs, one behind the other
+  abbrev pub AreOfRuns : Writer → List Run → List Event → Type 0
+  AreOfRuns write [] events = events ≡ []
+  AreOfRuns write (r ∷ runs) events = (before : List Event) × AreOfRuns write runs before × AreOfRun write before r r.did events
+
+  -- the files open to the list of the world behind events of these runs and an opening more, of which the headline holds
+  pub record ComesTo (write : Writer) (store : Bytes) (runs : List Run) (files : Files) : Type 0 where
+    pub events : List Event
+    pub of_runs : AreOfRuns write runs events
+    pub which : Option ℕ
+    pub opens : OpenTo store files (world write (events ++ Reopens which ∷ [])).server.list
+    pub headline : Headline write (world write (events ++ Reopens which ∷ []))
+
+  -- a list of runs and crashes from a new store on is a list of events, and what it leaves is the list of a world of which the headline holds
+  abbrev pub ChainsAreEvents : Type 0
+  ChainsAreEvents = (store : Bytes) → length store ≡ 16 → (runs : List Run) → FollowOneAnother store runs → (write : Writer) (files : Files) → AreLeft store runs files → ComesTo write store runs files
+
+-- the files that `init` has made open to the empty list, whatever a crash leaves of them
+abbrev pub NewStoresAreEmpty : {D O : Type 0} → DiskMeaning D → SinkMeaning O → Type 0
+NewStoresAreEmpty {D = D} {O = O} disk sink = (store : Bytes) (log log' side side' : D) (o o' : O) (status : ℕ) → length store ≡ 16 → IsMade disk sink store log log' side side' o o' status
+    → disk.tells log → disk.tells side → (files : Files) → MayLeave disk log' side' files → OpenTo store files []

@@ -1,0 +1,123 @@
+-- A run over the members of an input as events of a world.
+use Rattle.std.specs.Prelude.{◌≡◌, ◌<◌, ℕ, List, ◌++◌, length, take, Option, Some, Result, Ok, Err}
+use Rattle.std.proofs.Common.{inr}
+use Rattle.std.specs.List.{slice_get}
+use Rattle.news_types.specs.declared.entry.Entry.{Entry}
+use Rattle.news_types.specs.declared.words.Format.TheVariants.{Ninjs, Text7901}
+use Rattle.news_types.specs.Books.{Book}
+use Rattle.news_types.specs.History.{History}
+use Rattle.news_types.specs.Frames.{Writer}
+use Rattle.news_io.specs.Clock.{ClockMeaning, Gave}
+use Rattle.news_io.specs.Disk.{DiskMeaning}
+use Rattle.news_io.specs.Sink.{SinkMeaning}
+use Rattle.news_io.specs.Source.{SourceMeaning}
+use Rattle.line_run.specs.Run.{WasRead}
+use Rattle.line_run.specs.Status.{status_of}
+use Rattle.run_status.specs.Output.{Wrote, Told}
+use Rattle.run_status.specs.Status.{number_of, line_of}
+use Rattle.line_run.specs.Turns.{Turn, asked}
+use Rattle.line_run.specs.declared.ending.Ending.{Ending}
+use Rattle.line_run.specs.declared.ending.Ending.TheVariants as end
+use Rattle.news_pair.specs.Keeper.{pair_of}
+use Rattle.news_pair.specs.declared.pair.Pair.{Pair}
+use Rattle.news_room.specs.declared.room.Room.{Room}
+use Rattle.news_room.specs.Stands.{in_doubt}
+use Rattle.world_laws.specs.World.{World, Event, run}
+use Rattle.newsdesk_cli.specs.Command.{HasAnswered, Does}
+use Rattle.room_runs.specs.Lines.{LONGEST_INPUT}
+use Rattle.newsdesk_cli.specs.declared.words.Job.{Job}
+use Rattle.newsdesk_cli.specs.declared.words.Job.TheVariants.{Batch, Ingest}
+use Rattle.program_events.specs.Stories.{wire_input, item_input}
+use Rattle.program_events.specs.Events.{Input, line_input, turn_events, turn_readings, world_texts, AreBegun}
+
+-- the entry is one of those in doubt
+abbrev pub IsOneOf : List Entry → Entry → Type 0
+IsOneOf doubt e = (i : ℕ) × (slice_get doubt i ≡ Some e)
+
+-- the first of these events lead to the list
+pub record Front (write : Writer) (w : World) (events : List Event) (h : History) : Type 0 where
+  pub front : List Event
+  pub rest : List Event
+  pub events_are : events ≡ front ++ rest
+  pub list : (run write front w).server.list ≡ h
+
+-- these events lead from the world's list to this one, and the first of them to each list between
+pub record Lead (write : Writer) (w : World) (events : List Event) (g : History) : Type 0 where
+  pub list : (run write events w).server.list ≡ g
+  pub each : (later part first : List Entry) → part ≡ first ++ w.server.list → g ≡ later ++ part → Front write w events part
+
+-- ---- the events of members, with the readings that were taken, and what was written of their answers
+
+-- the clock gave these readings
+pub record Reads {C : Type 0} (clock : ClockMeaning C) (c c' : C) (readings : List ℕ) : Type 0 where
+  pub told : clock.tells c → clock.tells c'
+  pub gave : clock.tells c → Gave (clock.ahead c) readings (clock.ahead c')
+
+module _ {X C O : Type 0} (input : Input X) (clock : ClockMeaning C) (sink : SinkMeaning O) (write : Writer) (w : World) (c c' : C) (o o' : O) where
+  -- all these members were answered as the world answers them
+  pub record AllHappened (said : List X) (events : List Event) : Type 0 where
+    pub turns : List (Turn X)
+    pub said_is : said ≡ asked turns
+    pub events_are : events ≡ turn_events input turns
+    pub wrote : Wrote sink o o' (world_texts input write w turns)
+    pub reads : Reads clock c c' (turn_readings input turns)
+
+  -- the first of them were, and the next may have begun: nothing of its answer was written, but where the output has failed
+  pub record SomeHappened (said : List X) (why : Ending) (events : List Event) : Type 0 where
+    pub turns : List (Turn X)
+    pub later : List X
+    pub said_is : said ≡ asked turns ++ later
+    pub begun : List Event
+    pub took : List ℕ
+    pub next : AreBegun input later why took begun
+    pub events_are : events ≡ turn_events input turns ++ begun
+    pub half : List ℕ
+    pub cut : 0 < length half → why ≡ end.Write
+    pub wrote : Wrote sink o o' (world_texts input write w turns ++ half)
+    pub reads : Reads clock c c' (turn_readings input turns ++ took)
+
+  -- by what ended the run, where so much of the input was read and there was more
+  abbrev pub Happened : List ℕ → List ℕ → Result (Unit {0}) Ending → List Event → Type 0
+  Happened read more (Ok u) events = AllHappened (input.all read) events
+  Happened read more (Err end.Read) events = AllHappened (input.decided read) events
+  Happened read more (Err end.TooLong) events = AllHappened (input.decided (take LONGEST_INPUT read)) events
+  Happened read more (Err why) events = SomeHappened (input.all (read ++ more)) why events
+
+-- ---- a run
+
+-- what a run did is these events of a world: the answers to its members are those of the world, and they lead to the list g. Whatever is in doubt
+-- behind the run is in doubt in the world
+pub record RunHappened {X C S O : Type 0} (input : Input X) (clock : ClockMeaning C) (source : SourceMeaning S) (sink : SinkMeaning O) (write : Writer) (w : World) (i i' : S) (o o' : O) (c c' : C) (status : ℕ) (g : History) (D : Entry → Type 0) (events : List Event) : Type 0 where
+  pub result : Result (Unit {0}) Ending
+  pub status_is : status ≡ number_of (status_of result)
+  pub read : List ℕ
+  pub more : List ℕ
+  pub was_read : WasRead source i i' read more
+  pub answered : O
+  pub happened : Happened input clock sink write w c c' o answered read more result events
+  pub line : Told sink answered o' (line_of (status_of result))
+  pub lead : Lead write w events g
+  pub doubt : (e : Entry) → D e → IsOneOf (run write events w).server.doubt e
+
+module _ {D S O C : Type 0} (disk : DiskMeaning D) (clock : ClockMeaning C) (source : SourceMeaning S) (sink : SinkMeaning O)
+    (log log' side side' : D) (i i' : S) (o o' : O) (c c' : C) (status : ℕ) where
+  -- what the files and the input were answered is events of each world that has the list to which the files opened, and leads to the list that they are left with
+  abbrev pub AnswersAreEvents : {X : Type 0} → Input X → {Answered : Room (Pair D) → Room (Pair D) → Book → Type 0} → HasAnswered disk clock source sink log log' side side' i i' o o' c c' status Answered → Type 0
+  AnswersAreEvents input did = (tells : disk.tells log) → (tells' : disk.tells side) → (write : Writer) (w : World) → w.server.list ≡ did.opened.history
+      → (events : List Event) × RunHappened input clock source sink write w i i' o o' c c' status (did.files tells tells').list (in_doubt (pair_of disk) did.after) events
+
+  -- so it is with lines and with stories; whatever else the program did is no event
+  abbrev pub AreEvents : (job : Option Job) → Does disk clock source sink log log' side side' i i' o o' c c' status job → Type 0
+  AreEvents (Some Batch) (inr did) = AnswersAreEvents line_input did
+  AreEvents (Some (Ingest Text7901 provider)) (inr did) = AnswersAreEvents (wire_input provider) did
+  AreEvents (Some (Ingest Ninjs provider)) (inr did) = AnswersAreEvents (item_input provider) did
+  AreEvents job did = Unit {0}
+
+  -- what the words do, and that it is events of the world
+  abbrev pub HasHappened : Option Job → Type 0
+  HasHappened job = (did : Does disk clock source sink log log' side side' i i' o o' c c' status job) × AreEvents job did
+
+-- whatever the program does by its contract is events of the world
+abbrev pub RunsAreEvents : {D S O C : Type 0} → DiskMeaning D → ClockMeaning C → SourceMeaning S → SinkMeaning O → Type 0
+RunsAreEvents {D = D} {S = S} {O = O} {C = C} disk clock source sink = (log log' side side' : D) (i i' : S) (o o' : O) (c c' : C) (status : ℕ) (job : Option Job)
+    → (did : Does disk clock source sink log log' side side' i i' o o' c c' status job) → AreEvents disk clock source sink log log' side side' i i' o o' c c' status job did
