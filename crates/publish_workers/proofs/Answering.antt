@@ -29,7 +29,7 @@ denied_done : (why : Denial) (done : Reply) → Denied why ≡ Done done → ⊥
 denied_done why done is = cc
 
 -- two receipts of one line are for the same number
-same_number : (s : Bytes) (n j : ℕ) (reply : Bytes) → IsReceipt s n → IsReceipt s j → reply ≡ receipt_bytes s n → reply ≡ receipt_bytes s j → j ≡ n
+pub same_number : (s : Bytes) (n j : ℕ) (reply : Bytes) → IsReceipt s n → IsReceipt s j → reply ≡ receipt_bytes s n → reply ≡ receipt_bytes s j → j ≡ n
 same_number s n j reply one other is was =
     let read : Some (s, n) ≡ Some (s, j) = sym (read_again.again s n one) ∙ ap (λ (line : Bytes). receipt_of line) (sym is ∙ was) ∙ read_again.again s j other in
     sym (ap (λ (r : Bytes × ℕ). r.1) (some_is (s, n) (s, j) read))
@@ -40,7 +40,7 @@ within_by h s n None is free = receipt_within h s n is
 within_by h s n (Some why) is free = absurd (free why refl)
 
 -- and where the feed is long enough, the receipt of a subscriber is not denied
-fits_by : (h : History) (s : Bytes) (n : ℕ) → is_subscriber h s ≡ true → n ≤ length (feed h s) → receipt_denial h s n ≡ None
+pub fits_by : (h : History) (s : Bytes) (n : ℕ) → is_subscriber h s ≡ true → n ≤ length (feed h s) → receipt_denial h s n ≡ None
 fits_by h s n there within = let fits : nat_le n (length (feed h s)) ≡ true = grind (arith, nat_tests, within) in rw (there, fits) refl
 
 done_by : (h : History) (s : Bytes) (n m : ℕ) (raises : Bool) → nat_lt (acked h s) n ≡ raises → receipt_denial h s n ≡ None → (done : Reply) × ((receipt_at h s n m).answer ≡ Done done)

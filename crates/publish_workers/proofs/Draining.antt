@@ -1,5 +1,5 @@
 -- Turns one behind another.
-use Rattle.std.proofs.Common.{◌≡◌, ℕ, ◌+◌, ◌-◌, ◌<◌, ◌≤◌, Bool, true, false, ◌||◌, List, [], ◌∷◌, ◌++◌, take, drop, Some, None, refl, sym, ap, ◌∙◌, subst, append-nil, append_assoc, inl, inr, arith}
+use Rattle.std.proofs.Common.{◌≡◌, ℕ, ◌+◌, ◌<◌, ◌≤◌, Bool, true, false, ◌||◌, List, [], ◌∷◌, ◌++◌, take, drop, Some, None, refl, sym, ap, ◌∙◌, subst, append-nil, append_assoc, inl, inr, arith}
 use Rattle.std.proofs.lemmas.List.{take-append-drop}
 use Rattle.news_types.specs.declared.entry.Entry.{Entry}
 use Rattle.news_types.specs.declared.entry.Act.TheVariants.{Attempt}
@@ -32,7 +32,7 @@ use Rattle.publish_workers.specs.declared.drain.Reported.{Reported}
 use Rattle.publish_workers.specs.Turns.{Exchange, Unsent, Unread, Replied, Receipted, Turn, word, word_of, is_link_fault, is_store_fault}
 use Rattle.publish_workers.specs.Links.{Passes, CountsFaults}
 use Rattle.publish_workers.specs.Steps.{later_entries, turn_entries, Exchanges, TurnHappens}
-use Rattle.publish_workers.specs.Drains.{report_of, IsReported, is_lost, is_refused, is_no_receipt, end_of, IsEnd, is_store_end, is_output_end, CountsLink, IsLineFault, Prints, TurnsHappen, DrainHappens}
+use Rattle.publish_workers.specs.Drains.{report_of, IsReported, end_of, IsEnd, is_store_end, is_output_end, CountsLink, IsLineFault, Prints, TurnsHappen, DrainHappens}
 
 -- ---- words
 
@@ -47,28 +47,6 @@ is_reported (Idle next) r is = none_some r is
 is_reported StoreFault r is = none_some r is
 is_reported (Full size count) r is = none_some r is
 is_reported Memory r is = none_some r is
-
-came_is : (x y : Reported) → Some x ≡ Some y → x.came ≡ y.came
-came_is x y is = let same : x ≡ y = cc in ap (λ (r : Reported). r.came) same
-
--- an attempt is reported as lost where the link failed
-pub lost_is : (w : Worked) (r : Reported) → report_of w ≡ Some r → is_lost r.came ≡ is_link_fault w
-lost_is (Delivered s k n) r is = ap is_lost (sym (came_is _ r is))
-lost_is (NoReceipt s k reply) r is = ap is_lost (sym (came_is _ r is))
-lost_is (LinkFault s k) r is = ap is_lost (sym (came_is _ r is))
-lost_is (Idle next) r is = absurd (none_some r is)
-lost_is StoreFault r is = absurd (none_some r is)
-lost_is (Full size count) r is = absurd (none_some r is)
-lost_is Memory r is = absurd (none_some r is)
-
-pub refused_is : (w : Worked) (r : Reported) → report_of w ≡ Some r → is_refused r.came ≡ is_no_receipt w
-refused_is (Delivered s k n) r is = ap is_refused (sym (came_is _ r is))
-refused_is (NoReceipt s k reply) r is = ap is_refused (sym (came_is _ r is))
-refused_is (LinkFault s k) r is = ap is_refused (sym (came_is _ r is))
-refused_is (Idle next) r is = absurd (none_some r is)
-refused_is StoreFault r is = absurd (none_some r is)
-refused_is (Full size count) r is = absurd (none_some r is)
-refused_is Memory r is = absurd (none_some r is)
 
 no_fault : (lost refused : Bool) (w : Worked) → ends.Drained.OutputFault ≡ end_of w lost refused → ⊥
 no_fault lost refused (Delivered s k n) is = cc

@@ -4,3 +4,8 @@ mod Worlds
 mod Turning
 mod Exchanging
 mod Draining
+mod Ready
+mod Changes
+mod Delivering
+mod Complete
+mod LinkDraining

@@ -1,5 +1,5 @@
 -- A claim and its exchange make a turn.
-use Rattle.std.proofs.Common.{◌≡◌, ℕ, ◌+◌, ◌≤◌, ◌<◌, Bool, true, false, List, [], ◌∷◌, ◌++◌, Option, Some, refl, sym, ap, ◌∙◌, subst, append-nil}
+use Rattle.std.proofs.Common.{◌≡◌, ℕ, Bool, true, false, List, [], ◌∷◌, ◌++◌, Option, Some, refl, sym, ap, ◌∙◌, subst, append-nil}
 use Rattle.std.specs.Option.{option_map}
 use Rattle.news_types.specs.declared.entry.Entry.{Entry}
 use Rattle.news_types.specs.declared.entry.Act.TheVariants.{Attempt}
@@ -45,7 +45,7 @@ claim_list h names m s k is =
     ∙ ap (λ (l : List Entry). followed_by l (ticked h m)) (attempt_is (ticked h m) names m s k is)
 
 module _ (x : Beside) (b : Book) (now : ℕ) (names : List Bytes) (first : List Entry) (s : Bytes) (k : ℕ) (frame : Bytes) (front : ℕ) (step : ClaimStep x b now names first (Claimed.Job s k frame front)) where
-  left_is : (onto first b).list ≡ entry_of (moment_at b.list now) (Attempt s k) ∷ ticked b.list (moment_at b.list now)
+  pub left_is : (onto first b).list ≡ entry_of (moment_at b.list now) (Attempt s k) ∷ ticked b.list (moment_at b.list now)
   left_is = ap (λ (l : List Entry). followed_by l b.list) step.3.whole.is ∙ claim_list b.list names (moment_at b.list now) s k step.0
 
   -- whose frame it is, is a subscriber

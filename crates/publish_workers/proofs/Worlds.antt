@@ -1,5 +1,5 @@
 -- A turn is a list of events of the world.
-use Rattle.std.proofs.Common.{◌≡◌, ℕ, ◌+◌, ◌≤◌, List, [], ◌∷◌, ◌++◌, Option, Some, None, refl, sym, ap, ◌∙◌, subst}
+use Rattle.std.proofs.Common.{◌≡◌, ℕ, List, [], ◌∷◌, ◌++◌, Option, Some, None, refl, sym, ap, ◌∙◌, subst}
 use Rattle.news_types.specs.declared.entry.Entry.{Entry}
 use Rattle.news_types.specs.Names.{Bytes}
 use Rattle.news_types.specs.History.{History}

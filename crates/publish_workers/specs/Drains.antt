@@ -17,7 +17,7 @@ use Rattle.publish_workers.specs.declared.drain.Drained as ends
 use Rattle.publish_workers.specs.declared.drain.Drained.{Drained}
 use Rattle.publish_workers.specs.declared.drain.Reported.{Reported}
 use Rattle.publish_workers.specs.Links.{CountsFaults}
-use Rattle.publish_workers.specs.Turns.{Turn, word, frames_of, replies_of, readings, is_link_fault, is_store_fault}
+use Rattle.publish_workers.specs.Turns.{Turn, word, frames_of, replies_of, readings, is_link_fault, is_no_receipt, is_store_fault}
 use Rattle.publish_workers.specs.Steps.{TurnHappens, turn_entries}
 
 -- ---- what is reported
@@ -77,22 +77,7 @@ all_readings (t ∷ ts) = all_readings ts ++ readings t
 
 -- ---- how it ends
 
--- the link failed at an attempt; the reply was no receipt
-abbrev pub is_lost : Attempted → Bool
-is_lost came.LinkFault = true
-is_lost came.Delivered = false
-is_lost came.NoReceipt = false
-
-abbrev pub is_refused : Attempted → Bool
-is_refused came.NoReceipt = true
-is_refused came.Delivered = false
-is_refused came.LinkFault = false
-
-abbrev pub is_no_receipt : Worked → Bool
-is_no_receipt (NoReceipt s k reply) = true
-is_no_receipt _ = false
-
--- at one of these turns
+-- the link failed at an attempt, or the reply was no receipt, at one of these turns
 abbrev pub lost_in : List Turn → Bool
 lost_in [] = false
 lost_in (t ∷ ts) = lost_in ts || is_link_fault (word t)

@@ -4,3 +4,6 @@ pub mod Links
 pub mod Events
 pub mod Steps
 pub mod Drains
+pub mod Completeness
+pub mod Statuses
+pub mod LinkDrains

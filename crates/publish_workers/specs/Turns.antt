@@ -49,10 +49,14 @@ word_of Claimed.Memory exchange = Memory
 abbrev pub word : Turn → Worked
 word t = word_of t.claimed t.exchange
 
--- the words of a failed link and of a failed keeper
+-- the words of a failed link, of a reply that is no receipt, and of a failed keeper
 abbrev pub is_link_fault : Worked → Bool
 is_link_fault (LinkFault s k) = true
 is_link_fault _ = false
+
+abbrev pub is_no_receipt : Worked → Bool
+is_no_receipt (NoReceipt s k reply) = true
+is_no_receipt _ = false
 
 abbrev pub is_store_fault : Worked → Bool
 is_store_fault StoreFault = true

@@ -1,11 +1,11 @@
 //! Turns one after another, with a line of output for each attempt.
-ghost use Rattle.std.specs.Prelude.{◌≡◌, ◌||◌, ◌∷◌, List, IfErr, MatchResult, Some};
+ghost use Rattle.std.specs.Prelude.{◌≡◌, ◌∷◌, List, IfErr, MatchResult, Some};
 ghost use Rattle.news_types.specs.declared.entry.Entry.{Entry};
 ghost use Rattle.news_types.specs.Books.{Book};
 ghost use Rattle.news_room.specs.Stands.{Stands, SomeBook};
 ghost use Rattle.publish_workers.specs.Turns.{Turn, word};
 ghost use Rattle.publish_workers.specs.Links.{Passes, Reads, CountsFaults};
-ghost use Rattle.publish_workers.specs.Drains.{report_of as report_of_word, line_of, is_lost, is_refused, lost_in, refused_in, end_of, IsEnd, is_store_end, is_output_end, CountsLink, IsLineFault, AllReported, all_frames, all_replies, all_readings, lines_of, last_line, Prints, Writes, DrainHappens};
+ghost use Rattle.publish_workers.specs.Drains.{report_of as report_of_word, line_of, lost_in, refused_in, end_of, IsEnd, is_store_end, is_output_end, CountsLink, IsLineFault, AllReported, all_frames, all_replies, all_readings, lines_of, last_line, Prints, Writes, DrainHappens};
 
 use crate::turn::deliver_turn;
 use crate::worked::Worked;
@@ -72,24 +72,6 @@ fn report_of(worked: &Worked) -> Option<Reported>
     }
 }
 
-fn is_lost(came: Attempted) -> bool
-    ensures { result ≡ is_lost came }
-{
-    matches!(came, Attempted::LinkFault)
-}
-
-fn is_refused(came: Attempted) -> bool
-    ensures { result ≡ is_refused came }
-{
-    matches!(came, Attempted::NoReceipt)
-}
-
-fn either(one: bool, other: bool) -> bool
-    ensures { result ≡ (one || other) }
-{
-    one || other
-}
-
 /// How a drain ends with a turn, if not at a line of the output.
 fn ended(worked: Worked, link_failed: bool, no_receipt: bool) -> Drained
     ensures { result ≡ end_of worked link_failed no_receipt }
@@ -146,6 +128,7 @@ pub fn drain_feeds<K: Keeper, C: Clock, L: Link, O: Sink>(
     ensures link_faults { CountsLink result (L.link.faults link.old) (L.link.faults link.new) }
     ensures store_faults { CountsFaults (is_store_end result) (K.keeper.faults room.old.keeper) (K.keeper.faults room.new.keeper) }
     ensures output_faults { CountsFaults (is_output_end result) (O.sink.faults output.old) (O.sink.faults output.new) }
+    ensures serves { L.link.serves link.new ≡ L.link.serves link.old }
 {
     let mut link_failed = false;
     let mut no_receipt = false;
@@ -157,7 +140,7 @@ pub fn drain_feeds<K: Keeper, C: Clock, L: Link, O: Sink>(
         if let Err(drained) = write_report(alloc, output, &reported) {
             return drained;
         }
-        link_failed = either(link_failed, is_lost(reported.came));
-        no_receipt = either(no_receipt, is_refused(reported.came));
+        link_failed |= worked.is_link_fault();
+        no_receipt |= worked.is_no_receipt();
     }
 }

@@ -6,11 +6,15 @@
 #![tactic(auto)]
 
 mod drain;
+mod laws;
+mod links;
 mod receipts;
 mod turn;
 mod worked;
 
 pub use drain::{Drained, drain_feeds};
+pub use laws::completeness_law;
+pub use links::{drain_links, status_of};
 pub use turn::deliver_turn;
 pub use worked::Worked;
 

@@ -3,11 +3,11 @@ ghost use Rattle.news_types.specs.FitsCommands.{FitsCommand};
 ghost use Rattle.entry_codec.specs.Fits.{FitsAct};
 ghost use Rattle.news_room.specs.Stands.{SomeBook};
 
-use crate::{Worked, deliver_turn};
+use crate::{Worked, deliver_turn, drain_links};
 use entry_codec::decode;
 use feed_links::MemoryLink;
 use feed_receiver::Receiver;
-use news_io::{Keeper, MemoryClock, MemoryKeeper};
+use news_io::{Keeper, MemoryClock, MemoryKeeper, MemorySink};
 use news_room::{Handled, Room};
 use news_types::{Act, Command, Moment, Name, Names};
 use std::alloc::Global;
@@ -167,6 +167,27 @@ fn empty_link(rt: &impl Abort, alloc: Global, failing: &[u64]) -> MemoryLink<Mem
     let alpha = receiver_of(rt, alloc, "alpha", &[]);
     let beta = receiver_of(rt, alloc, "beta", &[]);
     link_to(rt, alloc, alpha, beta, failing)
+}
+
+/// A link to one receiver that holds nothing, whose calls with these numbers fail.
+fn link_of_one(
+    rt: &impl Abort,
+    alloc: Global,
+    name: &str,
+    failing: &[u64],
+) -> MemoryLink<MemoryKeeper> {
+    let Ok(names) = [named(rt, name)].to_vec(alloc) else {
+        panic!(rt; "no memory")
+    };
+    let Ok(receivers) = Vec::from_array(alloc, [receiver_of(rt, alloc, name, &[])]) else {
+        panic!(rt; "no memory")
+    };
+    MemoryLink::new(
+        alloc,
+        Names::of(names),
+        receivers,
+        numbers(rt, alloc, failing),
+    )
 }
 
 /// What a turn at a moment is told as.
@@ -336,4 +357,33 @@ fn a_frame_is_sent_behind_its_attempt(rt: HostRuntime) {
     );
     assert_eq!(rt; link.count(&alpha), Some(1));
     assert_eq!(rt; (link.sent().len(), room.front()), (2, 5));
+}
+
+/// Of two links the first fails at its attempt: the second is drained all the same, and the status tells of the first.
+#[test]
+fn links_are_drained_in_turn(rt: HostRuntime) {
+    let alloc = rt.alloc();
+    let mut room = room_over(&rt, alloc, &[]);
+    send(&rt, alloc, &mut room, 1, ALPHA);
+    send(&rt, alloc, &mut room, 2, BETA);
+    send(&rt, alloc, &mut room, 3, FLASHED);
+    let Ok(readings) = vec![in alloc; 1000] else {
+        panic!(rt; "no memory")
+    };
+    let mut clock = MemoryClock::new(readings);
+    let mut links = [
+        link_of_one(&rt, alloc, "alpha", &[1]),
+        link_of_one(&rt, alloc, "beta", &[]),
+    ];
+    let mut output = MemorySink::new(alloc);
+    assert_eq!(rt;
+        drain_links(alloc, &mut room, &mut clock, &mut links, &mut output),
+        10
+    );
+    assert_eq!(rt;
+        output.passed(),
+        b"alpha 1 link-fault\nbeta 1 delivered\n{\"status\":10}\n"
+    );
+    // Three requests, two attempts, one receipt.
+    assert_eq!(rt; room.front(), 6);
 }

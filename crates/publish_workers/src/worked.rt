@@ -1,4 +1,7 @@
 //! What a turn is told as.
+ghost use Rattle.std.specs.Prelude.{◌≡◌};
+ghost use Rattle.publish_workers.specs.Turns.{is_link_fault, is_no_receipt};
+
 use feed_receiver::Line;
 use news_types::{Moment, Name};
 
@@ -49,4 +52,20 @@ pub enum Worked {
     },
     /// There is no memory for the frame: no attempt is kept, and nothing is sent.
     Memory,
+}
+
+impl Worked {
+    /// Whether the link has failed.
+    pub fn is_link_fault(&self) -> bool
+        ensures { result ≡ is_link_fault self.now }
+    {
+        matches!(self, Worked::LinkFault { .. })
+    }
+
+    /// Whether the reply was no receipt for the frame.
+    pub fn is_no_receipt(&self) -> bool
+        ensures { result ≡ is_no_receipt self.now }
+    {
+        matches!(self, Worked::NoReceipt { .. })
+    }
 }

@@ -1,13 +1,13 @@
-use Rattle.std.proofs.Common.{◌≡◌, ◌<◌, ◌≤◌, ◌++◌, ◌∷◌, ◌||◌, [], List, Bool, refl, sym, ap, ◌∙◌, subst, append-nil, append_assoc, arith}
+use Rattle.std.proofs.Common.{◌<◌, ◌≤◌, ◌++◌, ◌∷◌, ◌||◌, [], List, Bool, refl, sym, ap, ◌∙◌, subst, append-nil, arith}
 use Rattle.news_types.specs.Names.{Bytes}
 use Rattle.news_types.specs.Books.{onto}
 use Rattle.publish_workers.specs.declared.worked.Worked.{Worked}
-use Rattle.publish_workers.specs.Turns.{word, frames_of, replies_of, readings, is_link_fault, is_store_fault}
+use Rattle.publish_workers.specs.Turns.{word, frames_of, replies_of, readings, is_link_fault, is_no_receipt, is_store_fault}
 use Rattle.publish_workers.specs.Links.{CountsFaults}
 use Rattle.publish_workers.specs.Steps.{TurnHappens}
-use Rattle.publish_workers.specs.Drains.{is_output_end, report_of, line_of, end_of, lost_in, refused_in, is_no_receipt, all_frames, all_replies, all_readings, lines_of, last_line}
+use Rattle.publish_workers.specs.Drains.{is_output_end, report_of, line_of, end_of, lost_in, refused_in, all_frames, all_replies, all_readings, lines_of, last_line}
 use Rattle.publish_workers.proofs.Exchanging.{passes_none, reads_then}
-use Rattle.publish_workers.proofs.Draining.{is_reported, lost_is, refused_is, end_is, line_end, chain_none, chain_more, drain_ends, turn_goes, passes_more, prints_none, prints_some, lines_more, counts_then, counts_behind, link_ends, line_link, store_ends, calm_by, line_calm, output_calm}
+use Rattle.publish_workers.proofs.Draining.{is_reported, end_is, line_end, chain_none, chain_more, drain_ends, turn_goes, passes_more, prints_none, prints_some, lines_more, counts_then, counts_behind, link_ends, line_link, store_ends, calm_by, line_calm, output_calm}
 use Rattle.publish_workers.proofs.drain.drain_feeds.Goals as goal
 
 pub loop-reported-init : goal.loop-reported-init
@@ -83,7 +83,7 @@ loop-reported-preserved g c =
     let worked = c.deliver_turn-worked.result in
     let told = sym c.report_of.ensures ∙ c.in-Some.is in
     let link = g.L.Link.link in
-    let lost = c.either-link_failed.ensures ∙ ap (λ (x : Bool). c.loop-reported.link_failed || x) (c.is_lost.ensures ∙ lost_is worked c.in-Some.reported told) in (
+    let lost = ap (λ (x : Bool). c.loop-reported.link_failed || x) c.is_link_fault-link_failed.ensures in (
       subst (λ (x : Bool). CountsFaults x (link.faults c.args.link.now) (link.faults c.deliver_turn-worked.new.link)) (sym lost)
           (counts_then c.loop-reported.link_failed (is_link_fault worked) (link.faults c.args.link.now) (link.faults c.loop-reported.link) (link.faults c.deliver_turn-worked.new.link) c.loop-reported.invariant.0 c.deliver_turn-worked.ensures.link_faults),
       calm_by worked (g.K.Keeper.keeper.faults c.loop-reported.room.keeper) (g.K.Keeper.keeper.faults c.deliver_turn-worked.new.room.keeper) (is_reported worked c.in-Some.reported told) c.deliver_turn-worked.ensures.store_faults ∙ c.loop-reported.invariant.1,
@@ -91,8 +91,8 @@ loop-reported-preserved g c =
       (
         d.0 ∷ i.0,
         (reported, i.1),
-        c.either-link_failed.ensures ∙ ap (λ (x : Bool). x || c.is_lost.result) i.2 ∙ ap (λ (x : Bool). lost_in i.0 || x) (c.is_lost.ensures ∙ lost_is (word d.0) c.in-Some.reported report),
-        c.either-no_receipt.ensures ∙ ap (λ (x : Bool). x || c.is_refused.result) i.3 ∙ ap (λ (x : Bool). refused_in i.0 || x) (c.is_refused.ensures ∙ refused_is (word d.0) c.in-Some.reported report),
+        ap (λ (x : Bool). x || c.is_link_fault-link_failed.result) i.2 ∙ ap (λ (x : Bool). lost_in i.0 || x) (c.is_link_fault-link_failed.ensures ∙ ap (λ (w : Worked). is_link_fault w) d.1),
+        ap (λ (x : Bool). x || c.is_no_receipt-no_receipt.result) i.3 ∙ ap (λ (x : Bool). refused_in i.0 || x) (c.is_no_receipt-no_receipt.ensures ∙ ap (λ (w : Worked). is_no_receipt w) d.1),
         c.deliver_turn-worked.ensures.serves ∙ i.4,
         (
           i.5.0 ++ (d.2.1 ++ d.2.2),
@@ -151,3 +151,9 @@ returns-in-Err-clause-store_faults g c =
 pub returns-in-Err-clause-output_faults : goal.returns-in-Err-clause-output_faults
 returns-in-Err-clause-output_faults g c =
     counts_behind (is_output_end c.in-Err.drained) (g.O.Sink.sink.faults c.args.output.now) (g.O.Sink.sink.faults c.loop-reported.output) (g.O.Sink.sink.faults c.write_report.new.output) c.loop-reported.invariant.2 c.in-Err.ensures.count
+
+pub returns-in_default-clause-serves : goal.returns-in_default-clause-serves
+returns-in_default-clause-serves g c = c.deliver_turn-worked.ensures.serves ∙ c.loop-reported.invariant.3.4
+
+pub returns-in-Err-clause-serves : goal.returns-in-Err-clause-serves
+returns-in-Err-clause-serves g c = c.deliver_turn-worked.ensures.serves ∙ c.loop-reported.invariant.3.4
