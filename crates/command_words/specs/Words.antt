@@ -1,0 +1,93 @@
+-- Which words are a command of the program.
+use Rattle.std.specs.Prelude.{ℕ, Bool, true, false, not, ◌==◌, ◌&&◌, ◌||◌, nat_lt, List, [], ◌∷◌, length, slice_index, codes, if◌then◌else◌, Option, Some, None}
+use Rattle.std.specs.Char.{is_ascii_digit}
+use Rattle.std.specs.List.{list_all}
+use Rattle.std.specs.Str.Parse.{digits_value}
+use Rattle.std.specs.Option.{option_map}
+use Rattle.uuid.specs.Text.{parsed}
+use Rattle.news_types.specs.declared.words.Format.{Format}
+use Rattle.news_types.specs.declared.words.Format.TheVariants.{Ninjs, Text7901}
+use Rattle.news_types.specs.Names.{Bytes, same, is_name}
+use Rattle.command_words.specs.declared.words.Job.{Job}
+use Rattle.command_words.specs.declared.words.Job.TheVariants.{Init, Batch, Ingest, Feed, Queue, Drain, Check, Pack}
+
+-- of two words
+abbrev pub short_job : Bytes → Option Job
+short_job verb =
+    if same verb (codes "batch") then Some Batch
+    else (if same verb (codes "queue") then Some Queue
+    else (if same verb (codes "check") then Some Check
+    else (if same verb (codes "pack") then Some Pack
+    else None)))
+
+-- of three words
+abbrev pub long_job : Bytes → Bytes → Option Job
+long_job verb identifier = if same verb (codes "init") then option_map Init (parsed identifier) else None
+
+-- the format of what comes in
+abbrev pub format_of : Bytes → Option Format
+format_of word =
+    if same word (codes "7901") then Some Text7901
+    else (if same word (codes "ninjs") then Some Ninjs
+    else None)
+
+-- the name that a word is
+abbrev pub name_of : Bytes → Option Bytes
+name_of word = if is_name word then Some word else None
+
+-- to take in what comes in this format from this provider
+abbrev pub ingest_of : Option Format → Option Bytes → Option Job
+ingest_of (Some format) (Some provider) = Some (Ingest format provider)
+ingest_of format provider = None
+
+-- a 0 with more behind it
+abbrev pub leads_with_zero : Bytes → Bool
+leads_with_zero word = nat_lt 1 (length word) && slice_index word 0 == 48
+
+-- digits, of which the first is 0 only where it stands alone
+abbrev pub is_decimal : Bytes → Bool
+is_decimal word = list_all is_ascii_digit word && not (leads_with_zero word)
+
+-- the number that a word is, in decimal: below 4294967296
+abbrev pub number_of : Bytes → Option ℕ
+number_of word = if is_decimal word && (nat_lt 0 (length word) && nat_lt (digits_value 10 word) 4294967296) then Some (digits_value 10 word) else None
+
+-- to report a subscriber's feed behind its first entries, so many
+abbrev pub feed_of : Option Bytes → Option ℕ → Option Job
+feed_of (Some subscriber) (Some after) = Some (Feed subscriber after)
+feed_of subscriber after = None
+
+-- of four words
+abbrev pub wide_job : Bytes → Bytes → Bytes → Option Job
+wide_job verb first second =
+    if same verb (codes "ingest") then ingest_of (format_of first) (name_of second)
+    else (if same verb (codes "feed") then feed_of (name_of first) (number_of second)
+    else None)
+
+-- one of these pairs has this name
+abbrev pub names : List Bytes → Bytes → Bool
+names (other ∷ address ∷ pairs) name = same other name || names pairs name
+names words name = false
+
+-- names and addresses by turns, no name twice
+abbrev pub are_pairs : List Bytes → Bool
+are_pairs [] = true
+are_pairs (name ∷ []) = false
+are_pairs (name ∷ address ∷ pairs) = is_name name && (not (names pairs name) && are_pairs pairs)
+
+-- to push what is due to the receivers that these words name
+abbrev pub drain_job : List Bytes → Option Job
+drain_job pairs = if are_pairs pairs then Some Drain else None
+
+-- of a verb and the words behind the store
+abbrev pub job_by : Bytes → List Bytes → Option Job
+job_by verb [] = short_job verb
+job_by verb (identifier ∷ []) = long_job verb identifier
+job_by verb (first ∷ second ∷ []) = wide_job verb first second
+job_by verb words = None
+
+-- `init STORE UUID`, `batch STORE`, `ingest STORE FORMAT PROVIDER`, `feed STORE SUBSCRIBER AFTER`, `queue STORE`, `drain STORE` with
+-- pairs of a NAME and an ADDRESS, `check STORE` and `pack STORE`; a store and an address are any words
+abbrev pub job_of : List Bytes → Option Job
+job_of (verb ∷ store ∷ words) = if same verb (codes "drain") then drain_job words else job_by verb words
+job_of words = None

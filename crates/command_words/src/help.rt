@@ -1,0 +1,79 @@
+//! What the program says of itself.
+
+const HEAD: &str = "newsdesk: a newsroom server for one news agency
+
+";
+
+const INIT: &str =
+    "newsdesk init STORE UUID                make an empty log in the file STORE, for the store of this identifier
+";
+
+const BATCH: &str =
+    "newsdesk batch STORE                    answer the lines of standard input, one JSON object a line, and keep what they add
+";
+
+const INGEST: &str =
+    "newsdesk ingest STORE FORMAT PROVIDER   take in standard input as PROVIDER sent it: FORMAT 7901 is a wire, ninjs one item
+";
+
+const FEED: &str =
+    "newsdesk feed STORE SUBSCRIBER AFTER    release what waits, and write the entries of a subscriber's feed behind the first AFTER
+";
+
+const QUEUE: &str =
+    "newsdesk queue STORE                    release what waits, and write how far each subscriber's feed is acknowledged
+";
+
+const DRAIN: &str =
+    "newsdesk drain STORE NAME ADDRESS ..     send what is due to these receivers, each with its host and port, until nothing is
+";
+
+const CHECK: &str =
+    "newsdesk check STORE                    open the log, and say how many entries and publications it holds
+";
+
+const PACK: &str =
+    "newsdesk pack STORE                     pack what only the log holds into its side, empty the log, and say how many entries there are
+";
+
+const TAIL: &str = "newsdesk --help                         say this
+newsdesk COMMAND --help                 say the line of one command
+newsdesk --version                      say the version
+
+A line of `batch` is a request, as
+  {\"by\":\"admin\",\"number\":1,\"do\":\"add_subscriber\",\"subscriber\":\"alpha\",\"format\":\"ninjs\",\"products\":[\"all\"]}
+  {\"by\":\"admin\",\"number\":2,\"do\":\"flash\",\"story\":{\"headline\":\"Fire\",\"body\":\"Smoke.\"}}
+or a question, as
+  {\"ask\":\"feed\",\"subscriber\":\"alpha\",\"after\":0}
+
+Exit status: 0 all was answered, 2 usage, 3 wrong store, 4 read fault, 5 write fault, 6 store fault,
+7 damaged log or side, 8 log or side full, 9 out of memory, 10 link fault, 11 no receipt, 12 input too long. A status other than 0 and 5 is written
+to the output too, as {\"status\":7} with the place of the damage.
+";
+
+/// How the program is used, for `--help`: texts, to be written one behind the other. Each command has a line.
+pub fn help_texts() -> [&'static str; 10] {
+    [
+        HEAD, INIT, BATCH, INGEST, FEED, QUEUE, DRAIN, CHECK, PACK, TAIL,
+    ]
+}
+
+/// The line of a command, for its word and `--help`: nothing where the word is no command.
+pub fn command_help(command: &str) -> Option<&'static str> {
+    match command {
+        "init" => Some(INIT),
+        "batch" => Some(BATCH),
+        "ingest" => Some(INGEST),
+        "feed" => Some(FEED),
+        "queue" => Some(QUEUE),
+        "drain" => Some(DRAIN),
+        "check" => Some(CHECK),
+        "pack" => Some(PACK),
+        _ => None,
+    }
+}
+
+/// The program's name and version, for `--version`.
+pub fn version_text() -> &'static str {
+    "newsdesk 1\n"
+}

@@ -1,0 +1,8 @@
+//! The words of a command line: what they ask the program for, and what it says of itself.
+#![tactic(auto)]
+
+mod help;
+mod words;
+
+pub use help::{command_help, help_texts, version_text};
+pub use words::{Job, read_words};

@@ -1,0 +1,191 @@
+//! The words of a command line.
+ghost use Rattle.std.specs.Prelude.{◌≡◌};
+ghost use Rattle.std.specs.Char.{is_ascii_digit};
+ghost use Rattle.std.specs.List.{list_all};
+ghost use Rattle.std.specs.Option.{option_map};
+ghost use Rattle.uuid.specs.Text.{parsed};
+ghost use Rattle.command_words.specs.declared.words.Job.TheVariants.{Init};
+ghost use Rattle.command_words.specs.Words.{feed_of, format_of, ingest_of, job_of, name_of, number_of};
+ghost use Rattle.command_words.specs.Words as spec;
+
+use news_types::{Format, Name, Text};
+use uuid::Uuid;
+
+/// What a command line asks for.
+#[derive(Clone, Copy, PartialEq, Eq)]
+pub enum Job {
+    /// To make an empty log for the store of this identifier.
+    Init(Uuid),
+    /// To answer the lines of the input.
+    Batch,
+    /// To take in what the input has, in this format, from this provider.
+    Ingest { format: Format, provider: Name },
+    /// To release what waits, and report this subscriber's feed behind its first entries, so many.
+    Feed { subscriber: Name, after: u32 },
+    /// To release what waits, and report all feeds.
+    Queue,
+    /// To push what is due over the links to receivers.
+    Drain,
+    /// To open the log, and tell what it holds.
+    Check,
+    /// To let the side take what only the log has, and empty the log.
+    Pack,
+}
+
+/// What these words ask for, if they are a command.
+pub fn read_words(words: &[Text]) -> Option<Job>
+    ensures { result ≡ job_of words.now }
+{
+    let [verb, _, rest @ ..] = words else {
+        return None;
+    };
+    if verb.as_str() == "drain" {
+        return drain_job(rest);
+    }
+    job_by(verb.as_str(), rest)
+}
+
+/// What this word, a store and up to two words more ask for.
+fn job_by(verb: &str, words: &[Text]) -> Option<Job>
+    ensures { result ≡ spec.job_by verb.now words.now }
+{
+    match words {
+        [] => short_job(verb),
+        [identifier] => long_job(verb, identifier.as_str()),
+        [first, second] => wide_job(verb, first.as_str(), second.as_str()),
+        _ => None,
+    }
+}
+
+/// To push what is due, if these are the names of receivers and their addresses by turns, no name twice.
+fn drain_job(pairs: &[Text]) -> Option<Job>
+    ensures { result ≡ spec.drain_job pairs.now }
+{
+    if are_pairs(pairs) {
+        Some(Job::Drain)
+    } else {
+        None
+    }
+}
+
+/// Whether these are names and addresses by turns, no name twice.
+fn are_pairs(words: &[Text]) -> bool
+    ensures { result ≡ spec.are_pairs words.now }
+{
+    match words {
+        [] => true,
+        [name, _, pairs @ ..] => {
+            Name::read(name.as_str()).is_some() && !names(pairs, name) && are_pairs(pairs)
+        }
+        _ => false,
+    }
+}
+
+/// Whether one of these pairs has this name.
+fn names(pairs: &[Text], name: &Text) -> bool
+    ensures { result ≡ spec.names pairs.now name.now }
+{
+    match pairs {
+        [other, _, pairs @ ..] => other.as_str() == name.as_str() || names(pairs, name),
+        _ => false,
+    }
+}
+
+/// What this word and a store ask for.
+fn short_job(verb: &str) -> Option<Job>
+    ensures { result ≡ spec.short_job verb.now }
+{
+    match verb {
+        "batch" => Some(Job::Batch),
+        "queue" => Some(Job::Queue),
+        "check" => Some(Job::Check),
+        "pack" => Some(Job::Pack),
+        _ => None,
+    }
+}
+
+/// What this word, a store and an identifier ask for.
+fn long_job(verb: &str, identifier: &str) -> Option<Job>
+    ensures { result ≡ spec.long_job verb.now identifier.now }
+{
+    if verb == "init" {
+        return init_job(identifier);
+    }
+    None
+}
+
+/// To make a log for the store that this identifies, if it does.
+fn init_job(identifier: &str) -> Option<Job>
+    ensures { result ≡ option_map Init (parsed identifier.now) }
+{
+    match Uuid::parse_str(identifier) {
+        Ok(store) => Some(Job::Init(store)),
+        Err(_) => None,
+    }
+}
+
+/// What this word, a store and two words more ask for.
+fn wide_job(verb: &str, first: &str, second: &str) -> Option<Job>
+    ensures { result ≡ spec.wide_job verb.now first.now second.now }
+{
+    match verb {
+        "ingest" => ingest_job(first, second),
+        "feed" => feed_job(first, second),
+        _ => None,
+    }
+}
+
+/// To take in what comes in this format from this provider, if they are a format and a name.
+fn ingest_job(format: &str, provider: &str) -> Option<Job>
+    ensures { result ≡ ingest_of (format_of format.now) (name_of provider.now) }
+{
+    Some(Job::Ingest {
+        format: read_format(format)?,
+        provider: Name::read(provider)?,
+    })
+}
+
+/// To report this subscriber's feed behind so many entries, if they are a name and a number.
+fn feed_job(subscriber: &str, after: &str) -> Option<Job>
+    ensures { result ≡ feed_of (name_of subscriber.now) (number_of after.now) }
+{
+    Some(Job::Feed {
+        subscriber: Name::read(subscriber)?,
+        after: read_number(after)?,
+    })
+}
+
+/// The format of what comes in, if the word is one.
+fn read_format(word: &str) -> Option<Format>
+    ensures { result ≡ format_of word.now }
+{
+    match word {
+        "7901" => Some(Format::Text7901),
+        "ninjs" => Some(Format::Ninjs),
+        _ => None,
+    }
+}
+
+fn are_digits(word: &[u8]) -> bool
+    ensures { result ≡ list_all is_ascii_digit word.now }
+{
+    word.iter().all(|byte| byte.is_ascii_digit())
+}
+
+/// Whether the first of several bytes is a 0.
+fn leads_with_zero(word: &[u8]) -> bool
+    ensures { result ≡ spec.leads_with_zero word.now }
+{
+    word.len() > 1 && word[0] == b'0'
+}
+
+/// The number that the word is, if it is one below 4294967296, in decimal without a sign and without leading zeros.
+fn read_number(word: &str) -> Option<u32>
+    ensures { result ≡ number_of word.now }
+{
+    let digits = word.as_bytes();
+    if !are_digits(digits) || leads_with_zero(digits) {
+        return None;
+    }
+    word.parse().ok()
+}
