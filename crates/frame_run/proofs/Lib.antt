@@ -1,0 +1,5 @@
+pub mod Inputs
+pub mod Steps
+pub mod Turns
+pub mod Pieces
+pub mod Ended

@@ -1,0 +1,4 @@
+pub mod Input
+pub mod Answers
+pub mod Run
+pub mod Status
