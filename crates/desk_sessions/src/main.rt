@@ -1,11 +1,13 @@
-//! Sessions at a desk, over stores in memory and at moments that the input names: prints the answers to the lines of a batch.
+//! Sessions at a desk, over stores in memory and at moments that the input names: prints what the commands write.
 //!
 //! - `= new` begins a new store.
-//! - `@ M` ends the batch before it; from here on the clock shows M, in seconds since 1970-01-01T00:00:00Z.
-//! - `# text` ends the batch before it, and is printed as it is.
-//! - Each other line is one of the batch, which is answered where it ends.
+//! - `@ M` ends the command before it; from here on the clock shows M, in seconds since 1970-01-01T00:00:00Z.
+//! - `# text` ends the command before it, and is printed as it is.
+//! - `$ WORDS` ends the command before it, and begins one of these words.
+//! - Each other line is one of the command's input; without words the command is a batch.
 //!
-//! Each batch opens the store anew. What a command says that ends with another status than 0 is printed as an answer is.
+//! A command is done where it ends, and opens the store anew. What one says that ends with another status than 0 is printed as an
+//! answer is.
 #![tactic(auto)]
 
 use news_io::{MemoryClock, MemoryDisk, MemorySink, MemorySource, UnreachableLink};
@@ -15,19 +17,19 @@ use std::alloc::Global;
 use std::io::{self, ErrorKind, Write};
 use std::mem;
 
-const INIT: &[&str] = &["init", "s", "6ba7b810-9dad-11d1-80b4-00c04fd430c8"];
+const INIT: &str = "init s 6ba7b810-9dad-11d1-80b4-00c04fd430c8";
 
-const BATCH: &[&str] = &["batch", "s"];
+const BATCH: &str = "batch s";
 
 fn main(rt: HostRuntime) -> io::Result<()> {
     let mut session = Session::new(rt.alloc());
     for line in rt.lines(rt.alloc()) {
         session.take_line(&rt, line?.as_str())?;
     }
-    session.end_batch(&rt)
+    session.end_command(&rt)
 }
 
-/// A store in memory, its clock, and the batch that is being read.
+/// A store in memory, its clock, and the command whose input is being read.
 #[derive(Drop)]
 struct Session {
     alloc: Global,
@@ -35,8 +37,10 @@ struct Session {
     side: MemoryDisk,
     /// What the clock shows, in seconds since 1970-01-01T00:00:00Z.
     moment: u64,
-    /// The lines of the batch, each with its line feed.
-    batch: Vec<u8>,
+    /// The command's words, if they were given.
+    words: Option<Vec<Text>>,
+    /// The lines of its input, each with its line feed.
+    input: Vec<u8>,
 }
 
 impl Session {
@@ -47,7 +51,8 @@ impl Session {
             log: MemoryDisk::new(alloc),
             side: MemoryDisk::new(alloc),
             moment: 0,
-            batch: Vec::new(alloc),
+            words: None,
+            input: Vec::new(alloc),
         }
     }
 
@@ -55,16 +60,21 @@ impl Session {
     fn take_line<R: Print>(&mut self, rt: &R, line: &str) -> io::Result<()> {
         match line.split_once(' ') {
             Some(("#", _)) => {
-                self.end_batch(rt)?;
+                self.end_command(rt)?;
                 println!(rt; "{line}")
             }
             Some(("@", moment)) => {
-                self.end_batch(rt)?;
+                self.end_command(rt)?;
                 self.set_clock(moment)
             }
             Some(("=", "new")) => {
-                self.end_batch(rt)?;
+                self.end_command(rt)?;
                 self.begin_store(rt)
+            }
+            Some(("$", words)) => {
+                self.end_command(rt)?;
+                self.words = Some(words_of(self.alloc, words)?);
+                Ok(())
             }
             _ => self.add_line(line),
         }
@@ -81,29 +91,34 @@ impl Session {
     fn begin_store<R: Print>(&mut self, rt: &R) -> io::Result<()> {
         self.log = MemoryDisk::new(self.alloc);
         self.side = MemoryDisk::new(self.alloc);
-        self.print_command(rt, INIT, Vec::new(self.alloc))
+        let words = words_of(self.alloc, INIT)?;
+        self.print_command(rt, &words, Vec::new(self.alloc))
     }
 
     fn add_line(&mut self, line: &str) -> io::Result<()> {
-        self.batch.extend_from_slice(line.as_bytes())?;
-        self.batch.push(b'\n')?;
+        self.input.extend_from_slice(line.as_bytes())?;
+        self.input.push(b'\n')?;
         Ok(())
     }
 
-    /// Answers the batch, if it has a line.
-    fn end_batch<R: Print>(&mut self, rt: &R) -> io::Result<()> {
-        let input = mem::replace(&mut self.batch, Vec::new(self.alloc));
-        if input.is_empty() {
-            return Ok(());
+    /// Does the command, if there is one: words, or a line of a batch.
+    fn end_command<R: Print>(&mut self, rt: &R) -> io::Result<()> {
+        let input = mem::replace(&mut self.input, Vec::new(self.alloc));
+        match mem::replace(&mut self.words, None) {
+            Some(words) => self.print_command(rt, &words, input),
+            None if input.is_empty() => Ok(()),
+            None => {
+                let words = words_of(self.alloc, BATCH)?;
+                self.print_command(rt, &words, input)
+            }
         }
-        self.print_command(rt, BATCH, input)
     }
 
     /// Runs a command over this input, and prints what it writes.
     fn print_command<R: Print>(
         &mut self,
         rt: &R,
-        words: &[&str],
+        words: &[Text],
         input: Vec<u8>,
     ) -> io::Result<()> {
         let Ok(output) = self.run_command(words, input) else {
@@ -113,8 +128,7 @@ impl Session {
     }
 
     /// Runs a command over this input, and gives what it writes.
-    fn run_command(&mut self, words: &[&str], input: Vec<u8>) -> Result<MemorySink, Memory> {
-        let words = texts_of(self.alloc, words)?;
+    fn run_command(&mut self, words: &[Text], input: Vec<u8>) -> Result<MemorySink, Memory> {
         let mut input = MemorySource::new(input);
         let mut output = MemorySink::new(self.alloc);
         let mut clock = MemoryClock::new(vec![in self.alloc; self.moment]?);
@@ -123,7 +137,7 @@ impl Session {
         let side = mem::replace(&mut self.side, MemoryDisk::new(self.alloc));
         let (_, log, side) = run(
             self.alloc,
-            &words,
+            words,
             &mut input,
             &mut output,
             log,
@@ -137,10 +151,14 @@ impl Session {
     }
 }
 
-fn texts_of(alloc: Global, words: &[&str]) -> Result<Vec<Text>, Memory> {
-    let mut texts = Vec::new(alloc);
-    for word in words {
-        texts.push(Text::copy_of(alloc, *word)?)?;
+/// The words of a line, with one space between them.
+fn words_of(alloc: Global, line: &str) -> io::Result<Vec<Text>> {
+    let mut words = Vec::new(alloc);
+    for word in line.split(' ') {
+        let Ok(word) = Text::copy_of(alloc, word) else {
+            return Err(io::Error::from(ErrorKind::OutOfMemory));
+        };
+        words.push(word)?;
     }
-    Ok(texts)
+    Ok(words)
 }

@@ -1,14 +1,17 @@
 //! newsdesk: a newsroom server for one news agency. It makes the real objects, and hands them to the call that is proved.
 #![tactic(auto)]
 
-use news_io::{FileDisk, Sink, StdClock, StdSink, StdSource, UnreachableLink, write_all};
-use news_types::{Memory, Text};
-use newsdesk_cli::{command_help, help_texts, run, version_text};
+use command_words::{command_help, help_texts, version_text};
+use feed_links::TcpLink;
+use news_io::{FileDisk, Sink, StdClock, StdSink, StdSource, write_all};
+use news_types::{Memory, Name, Text};
+use program_events::run;
 use progress::{Content, Meter, Watched};
 use run_status::Status;
 use std::alloc::Global;
 use std::fs::File;
 use std::io::{ErrorKind, IsTerminal};
+use std::net::{Net, TcpStream};
 use std::process::ExitCode;
 use std::rt::{Env, Files};
 use std::time::Clock;
@@ -47,10 +50,18 @@ fn words_of<R: Env + AllocGlobal>(rt: &R) -> Result<Vec<Text>, NoWords> {
     Ok(words)
 }
 
-fn start<R: Files<File = File> + Env + Clock + Input + Print + Eprint + AllocGlobal + Clone + Drop>(
-    rt: &R,
-    shows: bool,
-) -> u8 {
+fn start<
+    R: Files<File = File>
+        + Net<Stream = TcpStream>
+        + Env
+        + Clock
+        + Input
+        + Print
+        + Eprint
+        + AllocGlobal
+        + Clone
+        + Drop,
+>(rt: &R, shows: bool) -> u8 {
     let alloc = rt.alloc();
     let words = match words_of(rt) {
         Ok(words) => words,
@@ -104,13 +115,17 @@ fn meter<R: Clock + Eprint + Clone>(
 }
 
 /// Makes the real objects, and runs the command. Where `shows` is set, standard error shows how far the log and the input are read.
-fn run_words<R: Files<File = File> + Clock + Input + Eprint + AllocGlobal + Clone + Drop, O: Sink>(
-    rt: &R,
-    alloc: Global,
-    words: &[Text],
-    output: &mut O,
-    shows: bool,
-) -> Result<u8, Memory> {
+fn run_words<
+    R: Files<File = File>
+        + Net<Stream = TcpStream>
+        + Clock
+        + Input
+        + Eprint
+        + AllocGlobal
+        + Clone
+        + Drop,
+    O: Sink,
+>(rt: &R, alloc: Global, words: &[Text], output: &mut O, shows: bool) -> Result<u8, Memory> {
     let mut input = Watched::new(
         StdSource::new(alloc, rt.reader())?,
         meter(rt, shows, Content::Lines)?,
@@ -120,8 +135,8 @@ fn run_words<R: Files<File = File> + Clock + Input + Eprint + AllocGlobal + Clon
     let side = FileDisk::new(rt.clone()?, path_of(alloc, words, ".side")?);
     let log = Watched::new(log, meter(rt, shows, Content::Binary)?);
     let side = Watched::new(side, None);
-    // No command reaches a receiver yet.
-    let mut links: Vec<UnreachableLink> = Vec::new(alloc);
+    let mut links = Vec::new(alloc);
+    links.push(TcpLink::new(alloc, rt.clone()?, receivers_of(alloc, words)?)?)?;
     let (status, log, _) = run(
         alloc, words, &mut input, output, log, side, &mut clock, &mut links,
     );
@@ -129,6 +144,27 @@ fn run_words<R: Files<File = File> + Clock + Input + Eprint + AllocGlobal + Clon
         let _ = eprintln!(rt);
     }
     Ok(status)
+}
+
+/// The receivers that a drain names, each with its address; none of another command, or behind a word that is no name.
+fn receivers_of(alloc: Global, words: &[Text]) -> Result<Vec<(Name, Text)>, Memory> {
+    let mut receivers = Vec::new(alloc);
+    let [verb, _, pairs @ ..] = words else {
+        return Ok(receivers);
+    };
+    if verb.as_str() != "drain" {
+        return Ok(receivers);
+    }
+    for pair in pairs.chunks_exact(2) {
+        let [name, address] = pair else {
+            return Ok(receivers);
+        };
+        let Some(name) = Name::read(name.as_str()) else {
+            return Ok(receivers);
+        };
+        receivers.push((name, Text::copy_of(alloc, address.as_str())?))?;
+    }
+    Ok(receivers)
 }
 
 /// The path of the store that the words name, with this behind it.

@@ -1,6 +1,7 @@
 pub mod Outputs
 pub mod Commands
-pub mod Identifiers
 pub mod Packing
 pub mod FilesLeft
 pub mod Serving
+pub mod Reporting
+pub mod Draining

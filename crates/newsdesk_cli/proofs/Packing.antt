@@ -20,9 +20,9 @@ use Rattle.news_pair.specs.Steps.{Stays}
 use Rattle.news_room.specs.Stands.{Tells}
 use Rattle.news_room.specs.declared.room.Room.{Room}
 use Rattle.newsdesk_cli.specs.Packing.{Packs, PacksNot}
-use Rattle.store_files.specs.Files.{Files, MayLeave, FilesHold, CrashKeeps}
+use Rattle.store_files.specs.Files.{FilesHold, CrashKeeps}
 use Rattle.store_files.specs.Store.{IsOpenRoom}
-use Rattle.store_files.proofs.Holding.{calls_shut, holds_now, stays_keeps, room_tells, room_kept, room_holds}
+use Rattle.store_files.proofs.Holding.{calls_shut, holds_now, stays_keeps, room_kept, room_holds}
 use Rattle.store_files.proofs.Serving.{can_be_packed}
 
 length-payloads : (h : History) → length (payloads entry_bytes h) ≡ length h

@@ -1,6 +1,7 @@
 -- A store that holds a list is served.
-use Rattle.std.proofs.Common.{◌≡◌, ◌⊎◌, inl, inr, ℕ, ◌+◌, true, List, Option, Some, None, length, refl, sym, ◌∙◌, ap, subst, arith}
+use Rattle.std.proofs.Common.{◌≡◌, inl, inr, ℕ, ◌+◌, true, List, Option, Some, None, length, refl, sym, ◌∙◌, subst, arith}
 use Rattle.std.specs.Prelude.{Result, Ok, Err}
+use Rattle.news_types.specs.Books.{Book, onto}
 use Rattle.news_types.specs.Names.{Bytes}
 use Rattle.news_types.specs.declared.entry.Entry.{Entry}
 use Rattle.news_types.specs.declared.words.Format.TheVariants.{Ninjs, Text7901}
@@ -8,6 +9,7 @@ use Rattle.news_types.specs.History.{History}
 use Rattle.news_io.specs.Clock.{ClockMeaning}
 use Rattle.news_io.specs.Disk.{DiskMeaning}
 use Rattle.news_io.specs.Faults.{Rose}
+use Rattle.news_io.specs.Link.{LinkMeaning}
 use Rattle.news_io.specs.Sink.{SinkMeaning}
 use Rattle.news_io.specs.Source.{SourceMeaning}
 use Rattle.input_lines.specs.Lines.{ended, lines}
@@ -22,6 +24,8 @@ use Rattle.news_pair.specs.declared.pack_fault.PackFault.{PackFault}
 use Rattle.news_pair.specs.declared.pack_fault.PackFault.TheVariants as fault
 use Rattle.news_pair.specs.PackFaults.{IsDamage, FaultCounts}
 use Rattle.news_room.specs.declared.room.Room.{Room}
+use Rattle.publish_workers.specs.LinkDrains.{end_of_all}
+use Rattle.room_reports.specs.Reports.{feed_report_at, queue_report_at}
 use Rattle.room_runs.specs.Desk.{Hand, line_hand}
 use Rattle.room_runs.specs.Lines.{LONGEST_LINE, of_line}
 use Rattle.room_runs.specs.Members.{MembersAnswered}
@@ -35,11 +39,13 @@ use Rattle.store_files.specs.Trouble.{status_of, trouble_of_pack}
 use Rattle.store_files.specs.declared.trouble.Trouble.{Trouble}
 use Rattle.store_files.specs.declared.trouble.Trouble.TheVariants as trouble
 use Rattle.store_files.proofs.Serving.{served}
-use Rattle.newsdesk_cli.specs.Command.{check_line, IsServed, Serves, NotOpened, IsTold, IsChecked, IsCheck, IsPack, IsBatch, HasAnswered, Does}
+use Rattle.newsdesk_cli.specs.Command.{check_line, IsServed, Serves, NotOpened, IsTold, IsChecked, HasAnswered, IsReportOf, IsDrain, Does}
 use Rattle.newsdesk_cli.specs.Packing.{packed_line}
-use Rattle.newsdesk_cli.specs.declared.words.Job.{Job}
-use Rattle.newsdesk_cli.specs.declared.words.Job.TheVariants.{Init, Batch, Ingest, Check, Pack}
+use Rattle.command_words.specs.declared.words.Job.{Job}
+use Rattle.command_words.specs.declared.words.Job.TheVariants.{Init, Batch, Ingest, Feed, Queue, Drain, Check, Pack}
 use Rattle.newsdesk_cli.proofs.Commands.{rose_along}
+use Rattle.newsdesk_cli.proofs.Draining.{drain_else, drain_failed}
+use Rattle.newsdesk_cli.proofs.Reporting.{reported_else}
 
 -- ---- statuses
 
@@ -102,20 +108,45 @@ module _ {D O S C : Type 0} (disk : DiskMeaning D) (clock : ClockMeaning C) (sou
       by_run r.run.result Before Now status
       (λ is.
       let ends = subst (Ends (source.faults i) (source.faults i') (faults (hand r.old).room.now) (faults (hand r.new).room.now) (sink.faults o) (sink.faults r.run.mid)) is r.run.ends in
-      let rose = subst (λ (k : Room (Pair D)). Rose (faults a.room) (faults k)) r.after.room_is (subst (λ (k : Room (Pair D)). Rose (faults k) (faults (hand r.new).room.now)) r.before.room_is ends.1.0) in
-      rose_along disk log side log' side' a.room.keeper a.after.keeper a.opened.calm a.same a.same_side rose)
+      let rose = subst (λ (k : Room (Pair D)). Rose (faults a.went.room) (faults k)) r.after.room_is (subst (λ (k : Room (Pair D)). Rose (faults k) (faults (hand r.new).room.now)) r.before.room_is ends.1.0) in
+      rose_along disk log side log' side' a.went.room.keeper a.went.after.keeper a.went.opened.calm a.went.same a.went.same_side rose)
       r.run.status_is
 
-  pub serves : (job : Option Job) → Does disk clock source sink log log' side side' i i' o o' c c' status job → Serves Before Now job status
-  serves None did = tt
-  serves (Some (Init made)) did = tt
-  serves (Some Batch) (inl not) = not_opened not.why
-  serves (Some Batch) (inr done) = answered line_hand of_line (ended LONGEST_LINE) (lines LONGEST_LINE) done
-  serves (Some (Ingest format provider)) (inl not) = not_opened not.why
-  serves (Some (Ingest Text7901 provider)) (inr done) = answered wire_hand (λ start. of_found (of_incoming start provider)) decided wire done
-  serves (Some (Ingest Ninjs provider)) (inr done) = answered wire_hand (λ start. of_item (of_incoming start provider)) no_item one_item done
-  serves (Some Check) did = elim did.1 [ inl not ↦ not_opened not | inr done ↦ check_served sink o o' Before Now status done.opened.history done.told ]
-  serves (Some Pack) did = elim did.1 [
+  reported : (report : History → Bytes) → IsReportOf disk clock sink log log' side side' o o' c c' status report → IsServed Before Now status
+  reported report (inl not) = not_opened not.why
+  reported report (inr a) =
+      let here : Book = record { store = a.went.opened.store; told = true; list = a.went.opened.history } in
+      let did = a.reported.reported here (a.went.opened.holds true (λ is. (told, told'))).stands in
+      let written : Bytes = report ((onto a.reported.release.more here).list) in
+      record {
+        own = reported_else sink written o o' status 3 (inl refl) a.reported.release.ticked did;
+        whole = reported_else sink written o o' status 7 (inr refl) a.reported.release.ticked did;
+        failed = λ is. rose_along disk log side log' side' a.went.room.keeper a.went.after.keeper a.went.opened.calm a.went.same a.went.same_side (a.reported.store_faults.failed is);
+      }
+
+  drained : {L : Type 0} (link : LinkMeaning L) (l l' : List L) → IsDrain disk clock sink log log' side side' o o' c c' status link l l' → IsServed Before Now status
+  drained link l l' (inl not) = not_opened not.why.why
+  drained link l l' (inr a) = record {
+    own = λ is. drain_else 3 (inl refl) (end_of_all a.drained.drains) (sym a.drained.status_is ∙ is);
+    whole = λ is. drain_else 7 (inr refl) (end_of_all a.drained.drains) (sym a.drained.status_is ∙ is);
+    failed = λ is.
+        rose_along disk log side log' side' a.went.room.keeper a.went.after.keeper a.went.opened.calm a.went.same a.went.same_side
+        (drain_failed _ _ (end_of_all a.drained.drains) a.drained.store_faults (sym a.drained.status_is ∙ is));
+  }
+
+  pub serves : {L : Type 0} (link : LinkMeaning L) (l l' : List L) (job : Option Job) → Does disk clock source sink link log log' side side' i i' o o' c c' l l' status job → Serves Before Now job status
+  serves link l l' None did = tt
+  serves link l l' (Some (Init made)) did = tt
+  serves link l l' (Some Batch) (inl not) = not_opened not.why
+  serves link l l' (Some Batch) (inr done) = answered line_hand of_line (ended LONGEST_LINE) (lines LONGEST_LINE) done
+  serves link l l' (Some (Ingest format provider)) (inl not) = not_opened not.why
+  serves link l l' (Some (Ingest Text7901 provider)) (inr done) = answered wire_hand (λ start. of_found (of_incoming start provider)) decided wire done
+  serves link l l' (Some (Ingest Ninjs provider)) (inr done) = answered wire_hand (λ start. of_item (of_incoming start provider)) no_item one_item done
+  serves link l l' (Some (Feed subscriber after)) did = reported (feed_report_at subscriber after) did.1
+  serves link l l' (Some Queue) did = reported queue_report_at did.1
+  serves link l l' (Some Drain) did = drained link l l' did.1
+  serves link l l' (Some Check) did = elim did.1 [ inl not ↦ not_opened not | inr done ↦ check_served sink o o' Before Now status done.opened.history done.told ]
+  serves link l l' (Some Pack) did = elim did.1 [
     | inl not ↦ not_opened not
     | inr either ↦ elim either [
       | inl done ↦ told_served sink o o' Before Now status (packed_line done.count) done.told

@@ -10,6 +10,7 @@ use Rattle.news_types.specs.Answers.{query_answer}
 use Rattle.news_io.specs.Faults.{Rose}
 use Rattle.news_io.specs.Clock.{ClockMeaning}
 use Rattle.news_io.specs.Disk.{DiskMeaning, LeavesOnly}
+use Rattle.news_io.specs.Link.{LinkMeaning}
 use Rattle.news_io.specs.Sink.{SinkMeaning}
 use Rattle.news_io.specs.Source.{SourceMeaning}
 use Rattle.run_status.specs.Output.{Wrote, AllPassed, Told}
@@ -30,6 +31,8 @@ use Rattle.room_runs.specs.Batch.{InputAnswered}
 use Rattle.room_runs.specs.Wires.{IngestAnswered}
 use Rattle.newsdesk_cli.specs.FilesLeft.{FilesLeft}
 use Rattle.room_runs.specs.Lines.{no_frames, LONGEST_INPUT}
+use Rattle.room_reports.specs.Reports.{feed_report_at, queue_report_at, IsReport}
+use Rattle.publish_workers.specs.LinkDrains.{IsDrained}
 use Rattle.newsdesk_cli.specs.Packing.{packed_line, Packs, PacksNot}
 use Rattle.store_files.specs.Files.{FilesHold, CrashKeeps}
 use Rattle.store_files.specs.Store.{IsRefused, IsOpenRoom}
@@ -38,8 +41,8 @@ use Rattle.run_status.specs.declared.status.Status.TheVariants.{Usage}
 use Rattle.store_files.specs.Trouble.{status_of, trouble_of_pack}
 use Rattle.store_files.specs.declared.trouble.Trouble.{Trouble}
 use Rattle.store_files.specs.declared.trouble.Trouble.TheVariants as trouble
-use Rattle.newsdesk_cli.specs.declared.words.Job.{Job}
-use Rattle.newsdesk_cli.specs.declared.words.Job.TheVariants.{Init, Batch, Ingest, Check, Pack}
+use Rattle.command_words.specs.declared.words.Job.{Job}
+use Rattle.command_words.specs.declared.words.Job.TheVariants.{Init, Batch, Ingest, Feed, Queue, Drain, Check, Pack}
 
 -- how many entries and publications a list has, as a line
 abbrev pub check_line : History → List ℕ
@@ -122,6 +125,16 @@ module _ {D O : Type 0} (disk : DiskMeaning D) (sink : SinkMeaning O) (log log' 
   abbrev pub IsPack : Type 0
   IsPack = NotOpened ⊎ (HasPacked ⊎ HasNotPacked)
 
+module _ {D : Type 0} (disk : DiskMeaning D) (log log' side side' : D) (status : ℕ) where
+  -- the files were opened as a room, and are left by the room behind all that was done with it
+  pub record HasGoneOn : Type 0 where
+    pub room : Room (Pair D)
+    pub opened : IsOpenRoom disk log side room
+    pub after : Room (Pair D)
+    pub same : log' ≡ log_disk after.keeper
+    pub same_side : side' ≡ side_disk after.keeper
+    pub files : disk.tells log → disk.tells side → FilesLeft disk log side opened.store room after opened.history status
+
 module _ {D O S C : Type 0} (disk : DiskMeaning D) (clock : ClockMeaning C) (source : SourceMeaning S) (sink : SinkMeaning O)
     (log log' side side' : D) (i i' : S) (o o' : O) (c c' : C) (status : ℕ) where
   -- the files do not serve, and nothing was read
@@ -130,16 +143,11 @@ module _ {D O S C : Type 0} (disk : DiskMeaning D) (clock : ClockMeaning C) (sou
     pub input_same : i' ≡ i
     pub clock_same : c' ≡ c
 
-  -- the files were opened, and the input was answered from their list on: from a room to the room behind it, at a book
+  -- the input was answered from the list of the files on: from a room to the room behind it, at a book
   pub record HasAnswered (Answered : Room (Pair D) → Room (Pair D) → Book → Type 0) : Type 0 where
-    pub room : Room (Pair D)
-    pub opened : IsOpenRoom disk log side room
-    pub after : Room (Pair D)
-    pub same : log' ≡ log_disk after.keeper
-    pub same_side : side' ≡ side_disk after.keeper
+    pub went : HasGoneOn disk log log' side side' status
     pub answered : (told : Bool) → (told ≡ true → disk.tells log × disk.tells side)
-        → Answered room after (record { store = opened.store; told = told; list = opened.history })
-    pub files : disk.tells log → disk.tells side → FilesLeft disk log side opened.store room after opened.history status
+        → Answered went.room went.after (record { store = went.opened.store; told = told; list = went.opened.history })
     pub complete : source.tells i → length (source.ahead i) ≤ LONGEST_INPUT → (Rose (source.faults i) (source.faults i') → ⊥) → (Rose (sink.faults o) (sink.faults o') → ⊥)
         → (Rose (disk.faults log + disk.faults side) (disk.faults log' + disk.faults side') → ⊥) → IsComplete status
 
@@ -150,6 +158,37 @@ module _ {D O S C : Type 0} (disk : DiskMeaning D) (clock : ClockMeaning C) (sou
   -- the stories of the input, in this format, came in from a provider
   abbrev pub IsIngest : Format → Bytes → Type 0
   IsIngest format provider = NotBegun ⊎ HasAnswered (λ room after b. IngestAnswered (pair_of disk) clock source sink provider format room after c c' i i' o o' b 65 status)
+
+module _ {D O C : Type 0} (disk : DiskMeaning D) (clock : ClockMeaning C) (sink : SinkMeaning O)
+    (log log' side side' : D) (o o' : O) (c c' : C) (status : ℕ) where
+  -- the files do not serve, and the clock was not read
+  pub record NotReported : Type 0 where
+    pub why : NotOpened disk sink log log' side side' o o' status
+    pub clock_same : c' ≡ c
+
+  -- what waited was released, and then the list of the files was reported
+  pub record HasReported (report : History → Bytes) : Type 0 where
+    pub went : HasGoneOn disk log log' side side' status
+    pub reported : IsReport (pair_of disk) clock sink report went.room went.after c c' o o' status
+
+  -- a report on the list of the files
+  abbrev pub IsReportOf : (History → Bytes) → Type 0
+  IsReportOf report = NotReported ⊎ HasReported report
+
+  module _ {L : Type 0} (link : LinkMeaning L) (l l' : List L) where
+    -- the files do not serve, and neither the clock nor a link was touched
+    pub record NotDrained : Type 0 where
+      pub why : NotReported
+      pub links_same : l' ≡ l
+
+    -- what was due was pushed over the links, one after the other, until nothing was due
+    pub record HasDrained : Type 0 where
+      pub went : HasGoneOn disk log log' side side' status
+      pub drained : IsDrained (pair_of disk) clock sink link went.room went.after c c' l l' o o' status
+
+    -- what is due on the list of the files is pushed
+    abbrev pub IsDrain : Type 0
+    IsDrain = NotDrained ⊎ HasDrained
 
 module _ {D O : Type 0} (disk : DiskMeaning D) (sink : SinkMeaning O) (store : Bytes) (log log' side side' : D) (o o' : O) (status : ℕ) where
   -- one of the files is not empty, and both are as they were
@@ -190,8 +229,8 @@ module _ {D O : Type 0} (disk : DiskMeaning D) (sink : SinkMeaning O) (store : B
   abbrev pub IsInit : Type 0
   IsInit = IsTaken ⊎ (IsUnmade ⊎ IsMade)
 
-module _ {D O S C : Type 0} (disk : DiskMeaning D) (clock : ClockMeaning C) (source : SourceMeaning S) (sink : SinkMeaning O)
-    (log log' side side' : D) (i i' : S) (o o' : O) (c c' : C) (status : ℕ) where
+module _ {D O S C L : Type 0} (disk : DiskMeaning D) (clock : ClockMeaning C) (source : SourceMeaning S) (sink : SinkMeaning O) (link : LinkMeaning L)
+    (log log' side side' : D) (i i' : S) (o o' : O) (c c' : C) (l l' : List L) (status : ℕ) where
   -- nothing was read from the input and the clock
   pub record Unread : Type 0 where
     pub input_same : i' ≡ i
@@ -210,6 +249,9 @@ module _ {D O S C : Type 0} (disk : DiskMeaning D) (clock : ClockMeaning C) (sou
   Does (Some Check) = Unread × IsCheck disk sink log log' side side' o o' status
   Does (Some Pack) = Unread × IsPack disk sink log log' side side' o o' status
   Does (Some Batch) = IsBatch disk clock source sink log log' side side' i i' o o' c c' status
+  Does (Some (Feed subscriber after)) = (i' ≡ i) × IsReportOf disk clock sink log log' side side' o o' c c' status (feed_report_at subscriber after)
+  Does (Some Queue) = (i' ≡ i) × IsReportOf disk clock sink log log' side side' o o' c c' status queue_report_at
+  Does (Some Drain) = (i' ≡ i) × IsDrain disk clock sink log log' side side' o o' c c' status link l l'
   Does (Some (Ingest format provider)) = IsIngest disk clock source sink log log' side side' i i' o o' c c' status format provider
 
 -- the files are not refused for their bytes, and a failure is told only where the count of the disks rose
@@ -224,5 +266,8 @@ Serves before now None status = Unit {0}
 Serves before now (Some (Init store)) status = Unit {0}
 Serves before now (Some Batch) status = IsServed before now status
 Serves before now (Some (Ingest format provider)) status = IsServed before now status
+Serves before now (Some (Feed subscriber after)) status = IsServed before now status
+Serves before now (Some Queue) status = IsServed before now status
+Serves before now (Some Drain) status = IsServed before now status
 Serves before now (Some Check) status = IsServed before now status
 Serves before now (Some Pack) status = IsServed before now status

@@ -1,4 +1,3 @@
 pub mod FilesLeft
 pub mod Command
-pub mod Words
 pub mod Packing

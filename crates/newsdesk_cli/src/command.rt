@@ -4,24 +4,28 @@ ghost use Rattle.news_io.specs.Faults.{Counts};
 ghost use Rattle.news_journal.specs.Opened.{Still};
 ghost use Rattle.news_types.specs.History.{History};
 ghost use Rattle.news_types.specs.Names.{Bytes};
+ghost use Rattle.room_reports.specs.Reports.{feed_report_at, queue_report_at};
 ghost use Rattle.store_files.specs.Store.{Opens};
-ghost use Rattle.newsdesk_cli.specs.Words.{job_of};
-ghost use Rattle.newsdesk_cli.specs.Command.{IsInit, IsBatch, IsIngest, IsCheck, IsPack, Does, Serves};
+ghost use Rattle.command_words.specs.Words.{job_of};
+ghost use Rattle.newsdesk_cli.specs.Command.{IsInit, IsBatch, IsIngest, IsReportOf, IsDrain, IsCheck, IsPack, Does, Serves};
+ghost use Rattle.command_words.specs.declared.words.Job.TheVariants.{Drain};
 
 use crate::check::check_line;
 use crate::pack::tell_packed;
 use crate::telling::{tell_trouble, tell_usage};
-use crate::words::{Job, read_words};
+use command_words::{Job, read_words};
 use news_io::{Clock, Disk, Failed, Keeper, Link, Sink, Source};
 use news_journal::{Header, Journal};
 use news_types::{Format, Name, Text};
+use publish_workers::drain_links;
+use room_reports::{tell_feed, tell_queue};
 use room_runs::{answer_input, ingest_input};
 use std::alloc::Global;
 use store_files::{Trouble, is_empty, open_room};
 use uuid::Uuid;
 
-/// Does what the words ask for, and gives the status and the two disks back, the log's and the side's. The links are not
-/// used yet.
+/// Does what the words ask for, and gives the status and the two disks back, the log's and the side's. Only `drain` uses the
+/// links.
 #[tactic(none)]
 pub fn run<S: Source, O: Sink, D: Disk, C: Clock, L: Link>(
     alloc: Global,
@@ -33,21 +37,21 @@ pub fn run<S: Source, O: Sink, D: Disk, C: Clock, L: Link>(
     clock: &mut C,
     links: &mut Vec<L>,
 ) -> (u8, D, D)
-    ensures does { Does D.disk C.clock S.source O.sink log result.1 side result.2 input.old input.new output.old output.new clock.old clock.new result.0 (job_of words.now) }
+    ensures does { Does D.disk C.clock S.source O.sink L.link log result.1 side result.2 input.old input.new output.old output.new clock.old clock.new links.old.items links.new.items result.0 (job_of words.now) }
     // Files that open to a list are never told to be another store's or damaged, and a failed disk is told only where one has failed.
     ensures serves { D.disk.tells log → D.disk.tells side → (store : Bytes) (h : History) → length store ≡ 16 → Opens (D.disk.seen log) (D.disk.seen side) store h
         → Serves (D.disk.faults log + D.disk.faults side) (D.disk.faults result.1 + D.disk.faults result.2) (job_of words.now) result.0 }
-    ensures links { links.new ≡ links.old }
+    ensures links { (job_of words.now ≡ Some Drain → ⊥) → links.new.items ≡ links.old.items }
 {
     let Some(job) = read_words(words) else {
         return (tell_usage(output), log, side);
     };
-    do_job(alloc, job, input, output, log, side, clock)
+    do_job(alloc, job, input, output, log, side, clock, links)
 }
 
 /// Does what a command asks for.
 #[tactic(none)]
-fn do_job<S: Source, O: Sink, D: Disk, C: Clock>(
+fn do_job<S: Source, O: Sink, D: Disk, C: Clock, L: Link>(
     alloc: Global,
     job: Job,
     input: &mut S,
@@ -55,8 +59,10 @@ fn do_job<S: Source, O: Sink, D: Disk, C: Clock>(
     log: D,
     side: D,
     clock: &mut C,
+    links: &mut Vec<L>,
 ) -> (u8, D, D)
-    ensures { Does D.disk C.clock S.source O.sink log result.1 side result.2 input.old input.new output.old output.new clock.old clock.new result.0 (Some job) }
+    ensures does { Does D.disk C.clock S.source O.sink L.link log result.1 side result.2 input.old input.new output.old output.new clock.old clock.new links.old.items links.new.items result.0 (Some job) }
+    ensures links { (job ≡ Drain → ⊥) → links.new.items ≡ links.old.items }
 {
     match job {
         Job::Init(store) => init(output, log, side, store),
@@ -64,6 +70,9 @@ fn do_job<S: Source, O: Sink, D: Disk, C: Clock>(
         Job::Ingest { format, provider } => {
             ingest(alloc, input, output, log, side, clock, format, provider)
         }
+        Job::Feed { subscriber, after } => feed(alloc, output, log, side, clock, subscriber, after),
+        Job::Queue => queue(alloc, output, log, side, clock),
+        Job::Drain => drain(alloc, output, log, side, clock, links),
         Job::Check => check(alloc, output, log, side),
         Job::Pack => pack(alloc, output, log, side),
     }
@@ -140,6 +149,72 @@ fn ingest<S: Source, O: Sink, D: Disk, C: Clock>(
     match open_room(alloc, log, side) {
         Ok(mut room) => {
             let status = ingest_input(alloc, input, output, &mut room, clock, format, provider);
+            let (log, side) = room.into_keeper().into_disks();
+            (status, log, side)
+        }
+        Err((log, side, trouble)) => (tell_trouble(output, trouble), log, side),
+    }
+}
+
+/// Releases what waits, and reports a subscriber's feed behind its first entries.
+#[tactic(none)]
+fn feed<O: Sink, D: Disk, C: Clock>(
+    alloc: Global,
+    output: &mut O,
+    log: D,
+    side: D,
+    clock: &mut C,
+    subscriber: Name,
+    after: u32,
+) -> (u8, D, D)
+    ensures { IsReportOf D.disk C.clock O.sink log result.1 side result.2 output.old output.new clock.old clock.new result.0 (feed_report_at subscriber after) }
+{
+    match open_room(alloc, log, side) {
+        Ok(mut room) => {
+            let status = tell_feed(alloc, output, &mut room, clock, subscriber, after);
+            let (log, side) = room.into_keeper().into_disks();
+            (status, log, side)
+        }
+        Err((log, side, trouble)) => (tell_trouble(output, trouble), log, side),
+    }
+}
+
+/// Releases what waits, and reports all feeds.
+#[tactic(none)]
+fn queue<O: Sink, D: Disk, C: Clock>(
+    alloc: Global,
+    output: &mut O,
+    log: D,
+    side: D,
+    clock: &mut C,
+) -> (u8, D, D)
+    ensures { IsReportOf D.disk C.clock O.sink log result.1 side result.2 output.old output.new clock.old clock.new result.0 queue_report_at }
+{
+    match open_room(alloc, log, side) {
+        Ok(mut room) => {
+            let status = tell_queue(alloc, output, &mut room, clock);
+            let (log, side) = room.into_keeper().into_disks();
+            (status, log, side)
+        }
+        Err((log, side, trouble)) => (tell_trouble(output, trouble), log, side),
+    }
+}
+
+/// Pushes what is due over the links.
+#[tactic(none)]
+fn drain<O: Sink, D: Disk, C: Clock, L: Link>(
+    alloc: Global,
+    output: &mut O,
+    log: D,
+    side: D,
+    clock: &mut C,
+    links: &mut Vec<L>,
+) -> (u8, D, D)
+    ensures { IsDrain D.disk C.clock O.sink log result.1 side result.2 output.old output.new clock.old clock.new result.0 L.link links.old.items links.new.items }
+{
+    match open_room(alloc, log, side) {
+        Ok(mut room) => {
+            let status = drain_links(alloc, &mut room, clock, links.as_mut_slice(), output);
             let (log, side) = room.into_keeper().into_disks();
             (status, log, side)
         }

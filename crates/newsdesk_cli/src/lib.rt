@@ -3,14 +3,10 @@
 
 mod check;
 mod command;
-mod help;
 mod pack;
 mod telling;
-mod words;
 
 pub use command::run;
-pub use help::{command_help, help_texts, version_text};
-pub use words::Job;
 
 #[cfg(test)]
 mod tests;

@@ -19,15 +19,17 @@ returns-in-Ok g c =
     let same = ap (λ both. both.0) c.into_disks-log.ensures ∙ ap log_disk c.into_keeper.ensures in
     let same_side = ap (λ both. both.1) c.into_disks-log.ensures ∙ ap side_disk c.into_keeper.ensures in
     inr (record {
-      room = c.in-Ok.room;
-      opened = c.in-Ok.ensures.opened;
-      after = c.answer_input-status.new.room;
-      same = same;
-      same_side = same_side;
+      went = record {
+        room = c.in-Ok.room;
+        opened = c.in-Ok.ensures.opened;
+        after = c.answer_input-status.new.room;
+        same = same;
+        same_side = same_side;
+        files = λ told told'.
+            let opened = c.in-Ok.ensures.opened in
+            files_left d g.C.Clock.clock g.S.Source.source g.O.Sink.sink line_hand of_line (ended LONGEST_LINE) (lines LONGEST_LINE) c.args.log c.args.side c.in-Ok.room c.answer_input-status.new.room _ _ _ _ _ _ c.answer_input-status.result opened told told' (done.answered (record { store = opened.store; told = true; list = opened.history }) 65 (opened.holds true (λ is. (told, told'))));
+      };
       answered = λ told only. done.answered (record { store = c.in-Ok.ensures.opened.store; told = told; list = c.in-Ok.ensures.opened.history }) 65 (c.in-Ok.ensures.opened.holds told only);
-      files = λ told told'.
-          let opened = c.in-Ok.ensures.opened in
-          files_left d g.C.Clock.clock g.S.Source.source g.O.Sink.sink line_hand of_line (ended LONGEST_LINE) (lines LONGEST_LINE) c.args.log c.args.side c.in-Ok.room c.answer_input-status.new.room _ _ _ _ _ _ c.answer_input-status.result opened told told' (done.answered (record { store = opened.store; told = true; list = opened.history }) 65 (opened.holds true (λ is. (told, told'))));
       complete = λ given few reads writes disks. done.complete given few reads writes (λ rose. disks (rose_along d c.args.log c.args.side c.into_disks-log.result.0 c.into_disks-log.result.1 c.in-Ok.room.keeper c.answer_input-status.new.room.keeper c.in-Ok.ensures.opened.calm same same_side rose));
     })
 

@@ -1,17 +1,50 @@
 use Rattle.std.proofs.Common.{refl}
 use Rattle.newsdesk_cli.proofs.command.do_job.Goals as goal
 
-pub returns-in-Init : goal.returns-in-Init
-returns-in-Init g c = rw c.in-Init.is (record { input_same = refl; clock_same = refl }, c.init.ensures)
+pub returns-in-Init-clause-does : goal.returns-in-Init-clause-does
+returns-in-Init-clause-does g c = rw c.in-Init.is (record { input_same = refl; clock_same = refl }, c.init.ensures)
 
-pub returns-in-Batch : goal.returns-in-Batch
-returns-in-Batch g c = rw c.in-Batch.is c.batch.ensures
+pub returns-in-Init-clause-links : goal.returns-in-Init-clause-links
+returns-in-Init-clause-links g c other = refl
 
-pub returns-in-Ingest : goal.returns-in-Ingest
-returns-in-Ingest g c = rw c.in-Ingest.is c.ingest.ensures
+pub returns-in-Batch-clause-does : goal.returns-in-Batch-clause-does
+returns-in-Batch-clause-does g c = rw c.in-Batch.is c.batch.ensures
 
-pub returns-in-Check : goal.returns-in-Check
-returns-in-Check g c = rw c.in-Check.is (record { input_same = refl; clock_same = refl }, c.check.ensures)
+pub returns-in-Batch-clause-links : goal.returns-in-Batch-clause-links
+returns-in-Batch-clause-links g c other = refl
 
-pub returns-in-Pack : goal.returns-in-Pack
-returns-in-Pack g c = rw c.in-Pack.is (record { input_same = refl; clock_same = refl }, c.pack.ensures)
+pub returns-in-Ingest-clause-does : goal.returns-in-Ingest-clause-does
+returns-in-Ingest-clause-does g c = rw c.in-Ingest.is c.ingest.ensures
+
+pub returns-in-Ingest-clause-links : goal.returns-in-Ingest-clause-links
+returns-in-Ingest-clause-links g c other = refl
+
+pub returns-in-Feed-clause-does : goal.returns-in-Feed-clause-does
+returns-in-Feed-clause-does g c = rw c.in-Feed.is (refl, c.feed.ensures)
+
+pub returns-in-Feed-clause-links : goal.returns-in-Feed-clause-links
+returns-in-Feed-clause-links g c other = refl
+
+pub returns-in-Queue-clause-does : goal.returns-in-Queue-clause-does
+returns-in-Queue-clause-does g c = rw c.in-Queue.is (refl, c.queue.ensures)
+
+pub returns-in-Queue-clause-links : goal.returns-in-Queue-clause-links
+returns-in-Queue-clause-links g c other = refl
+
+pub returns-in-Drain-clause-does : goal.returns-in-Drain-clause-does
+returns-in-Drain-clause-does g c = rw c.in-Drain.is (refl, c.drain.ensures)
+
+pub returns-in-Drain-clause-links : goal.returns-in-Drain-clause-links
+returns-in-Drain-clause-links g c other = absurd (other c.in-Drain.is)
+
+pub returns-in-Check-clause-does : goal.returns-in-Check-clause-does
+returns-in-Check-clause-does g c = rw c.in-Check.is (record { input_same = refl; clock_same = refl }, c.check.ensures)
+
+pub returns-in-Check-clause-links : goal.returns-in-Check-clause-links
+returns-in-Check-clause-links g c other = refl
+
+pub returns-in-Pack-clause-does : goal.returns-in-Pack-clause-does
+returns-in-Pack-clause-does g c = rw c.in-Pack.is (record { input_same = refl; clock_same = refl }, c.pack.ensures)
+
+pub returns-in-Pack-clause-links : goal.returns-in-Pack-clause-links
+returns-in-Pack-clause-links g c other = refl

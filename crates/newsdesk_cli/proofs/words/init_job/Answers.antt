@@ -1,6 +1,0 @@
-use mathlib.Core.Bool.{false≢true}
-use Rattle.newsdesk_cli.proofs.Identifiers.{no_job}
-use Rattle.newsdesk_cli.proofs.words.init_job.Goals as goal
-
-pub returns-in-Err : goal.returns-in-Err
-returns-in-Err c = no_job _ (λ found. false≢true (c.in-Err.ensures.ok.1 found))
