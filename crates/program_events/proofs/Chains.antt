@@ -1,7 +1,8 @@
 -- Runs and crashes, one behind the other, are events of one world.
 use Rattle.std.proofs.Common.{◌≡◌, ◌⊎◌, inl, inr, ℕ, List, [], ◌∷◌, ◌++◌, length, Option, Some, None, refl, sym, ap, ◌∙◌, subst, append-nil}
+use Rattle.news_types.specs.declared.query.Query.{Query}
+use Rattle.news_types.specs.declared.query.Query.TheVariants as query
 use Rattle.news_types.specs.declared.words.Format.TheVariants.{Ninjs, Text7901}
-use Rattle.news_types.specs.Books.{Book}
 use Rattle.news_types.specs.declared.entry.Entry.{Entry}
 use Rattle.news_types.specs.Names.{Bytes}
 use Rattle.news_types.specs.History.{History}
@@ -11,23 +12,24 @@ use Rattle.news_io.specs.Disk.{DiskMeaning}
 use Rattle.news_io.specs.Left.{IsLeft, Between}
 use Rattle.news_io.specs.Sink.{SinkMeaning}
 use Rattle.news_io.specs.Source.{SourceMeaning}
-use Rattle.news_pair.specs.declared.pair.Pair.{Pair}
-use Rattle.news_room.specs.declared.room.Room.{Room}
 use Rattle.news_pair.specs.Keeper.{pair_of}
 use Rattle.news_pair.specs.Stands.{log_disk, side_disk}
 use Rattle.news_room.specs.Stands.{in_doubt}
+use Rattle.room_reports.specs.Reports.{feed_report_at, queue_report_at}
+use Rattle.room_runs.specs.Batch.{InputAnswered}
+use Rattle.room_runs.specs.Wires.{IngestAnswered}
 use Rattle.store_files.specs.Files.{Files, OpenTo, OpenAlike, MayLeave, LeftSince}
 use Rattle.world_laws.specs.World.{World, Event, Reopens, opening, reopened, happens, run}
 use Rattle.world_laws.proofs.Headline.{headline_holds}
-use Rattle.newsdesk_cli.specs.Command.{HasAnswered}
-use Rattle.newsdesk_cli.specs.declared.words.Job.TheVariants as job
+use Rattle.newsdesk_cli.specs.Command.{HasGoneOn, HasAnswered, HasReported}
 use Rattle.newsdesk_cli.specs.FilesLeft.{NoneInDoubt, FilesLeft}
-use Rattle.program_events.specs.Events.{Input, line_input}
+use Rattle.program_events.specs.Events.{line_input}
 use Rattle.program_events.specs.Stories.{wire_input, item_input}
-use Rattle.program_events.specs.Runs.{RunHappened, AnswersAreEvents}
-use Rattle.program_events.specs.Chains.{Did, Batch, Ingest, Check, Pack, Run, LeftByRun, MayCrash, IsLeftBy, AreLeft, FollowOneAnother, world, AreOfAnswers, AreOfRun, AreOfRuns, ComesTo, ChainsAreEvents}
+use Rattle.program_events.specs.Runs.{LeadsOn}
+use Rattle.program_events.specs.Chains.{Did, Batch, Ingest, Feed, Queue, Check, Pack, Run, LeftByRun, MayCrash, IsLeftBy, AreLeft, FollowOneAnother, world, AreOfGoing, Answers, Reports, AreOfRun, AreOfRuns, ComesTo, ChainsAreEvents}
 use Rattle.program_events.proofs.Turns.{run_on}
-use Rattle.program_events.proofs.Runs.{are_events}
+use Rattle.program_events.proofs.Reports.{report_happened}
+use Rattle.program_events.proofs.Runs.{batch_events, wire_events, item_events}
 use Rattle.program_events.proofs.Stores.{one_history, alike, to_both, refused_keeps, opened_keeps, packed_within, counts_since}
 
 -- ---- a world behind an opening
@@ -59,17 +61,22 @@ module _ {D S O C : Type 0} (disk : DiskMeaning D) (clock : ClockMeaning C) (sou
   none_ran : (files : Files) → OpenTo store files [] → Comes [] files
   none_ran files opens = comes_to [] files [] refl None opens
 
-  -- an input that was answered is events of each world that has the list, and these are those of its run
-  abbrev Shown : {X : Type 0} → Input X → {Answered : Room (Pair D) → Room (Pair D) → Book → Type 0} → (r : Run disk clock source sink) → HasAnswered disk clock source sink r.log r.log' r.side r.side' r.input r.input' r.output r.output' r.clock_was r.clock_is r.status Answered → Type 0
-  Shown input r a = AnswersAreEvents disk clock source sink r.log r.log' r.side r.side' r.input r.input' r.output r.output' r.clock_was r.clock_is r.status input a
+  -- what a run did, as events of a world
+  abbrev Happening : Type 1
+  Happening = Writer → World → List Event → Type 0
 
-  abbrev IsOfRun : {X : Type 0} → Input X → {Answered : Room (Pair D) → Room (Pair D) → Book → Type 0} → (r : Run disk clock source sink) → HasAnswered disk clock source sink r.log r.log' r.side r.side' r.input r.input' r.output r.output' r.clock_was r.clock_is r.status Answered → Type 0
-  IsOfRun input r a = (before events : List Event) → AreOfAnswers disk clock source sink input r a write before events → AreOfRun disk clock source sink write before r r.did events
+  abbrev Goes : Run disk clock source sink → Type 0
+  Goes r = HasGoneOn disk r.log r.log' r.side r.side' r.status
 
-  -- ---- members that were answered, from files that come to the list of a world
+  -- it has happened in each world that has the list, leads to the list that the files are left with, and is what its run did
+  record HasHappened (r : Run disk clock source sink) (a : Goes r) (Happened : Happening) : Type 0 where
+    shown : (w : World) → w.server.list ≡ a.opened.history → (events : List Event) × Happened write w events
+    leads : (w : World) (events : List Event) → Happened write w events → LeadsOn write w (a.files r.tells r.tells_side).list (in_doubt (pair_of disk) a.after) events
+    of_run : (before events : List Event) → AreOfGoing disk clock source sink Happened r write before events → AreOfRun disk clock source sink write before r r.did events
 
-  module _ {X : Type 0} (input : Input X) {Answered : Room (Pair D) → Room (Pair D) → Book → Type 0} (r : Run disk clock source sink) (a : HasAnswered disk clock source sink r.log r.log' r.side r.side' r.input r.input' r.output r.output' r.clock_was r.clock_is r.status Answered) (shown : Shown input r a) (of_run : IsOfRun input r a)
-      (runs : Runs) (before : Comes runs (disk.seen r.log, disk.seen r.side)) where
+  -- ---- what went on from files that come to the list of a world
+
+  module _ (r : Run disk clock source sink) (a : Goes r) (Happened : Happening) (hap : HasHappened r a Happened) (runs : Runs) (before : Comes runs (disk.seen r.log, disk.seen r.side)) where
     abbrev start : World
     start = world write (before.events ++ Reopens before.which ∷ [])
 
@@ -79,11 +86,11 @@ module _ {D S O C : Type 0} (disk : DiskMeaning D) (clock : ClockMeaning C) (sou
     abbrev left : FilesLeft disk r.log r.side a.opened.store a.room a.after a.opened.history r.status
     left = a.files r.tells r.tells_side
 
-    abbrev HasHappened : List Event → Type 0
-    HasHappened events = RunHappened input clock source sink write start r.input r.input' r.output r.output' r.clock_was r.clock_is r.status left.list (in_doubt (pair_of disk) a.after) events
+    did : (events : List Event) × Happened write start events
+    did = hap.shown start same.1
 
-    did : (events : List Event) × HasHappened events
-    did = shown r.tells r.tells_side write start same.1
+    on : LeadsOn write start left.list (in_doubt (pair_of disk) a.after) did.0
+    on = hap.leads start did.0 did.1
 
     -- the first of its events, of which a crash has undone the rest
     some_ran : (files : Files) (events undone : List Event) → did.0 ≡ events ++ undone → (r.crashed ≡ None → undone ≡ []) → (which : Option ℕ) → OpenTo store files (happens write (run write events start) (Reopens which)).server.list → Comes (r ∷ runs) files
@@ -91,7 +98,7 @@ module _ {D S O C : Type 0} (disk : DiskMeaning D) (clock : ClockMeaning C) (sou
         comes_to (r ∷ runs) files ((before.events ++ Reopens before.which ∷ []) ++ events) (
           before.events,
           before.of_runs,
-          of_run before.events ((before.events ++ Reopens before.which ∷ []) ++ events) (inr (before.which, events, refl, record { undone = undone; whole = whole; happened = subst HasHappened all did.1 })),
+          hap.of_run before.events ((before.events ++ Reopens before.which ∷ []) ++ events) (inr (before.which, events, refl, record { undone = undone; whole = whole; happened = subst (Happened write start) all did.1 })),
         )
         which (subst (λ (v : World). OpenTo store files (happens write v (Reopens which)).server.list) (sym (world_on write (before.events ++ Reopens before.which ∷ []) events)) opens)
 
@@ -99,13 +106,13 @@ module _ {D S O C : Type 0} (disk : DiskMeaning D) (clock : ClockMeaning C) (sou
     all_ran : (files : Files) → IsLeft (OpenTo a.opened.store) left.list (in_doubt (pair_of disk) a.after) files → Comes (r ∷ runs) files
     all_ran files (inl opens) =
         some_ran files did.0 [] (sym (append-nil did.0)) (λ none. refl) None
-        (subst (λ (h : History). OpenTo store files h) (sym did.1.lead.list) (subst (λ (s : Bytes). OpenTo s files left.list) (sym same.0) opens))
+        (subst (λ (h : History). OpenTo store files h) (sym on.lead.list) (subst (λ (s : Bytes). OpenTo s files left.list) (sym same.0) opens))
     all_ran files (inr one) =
         let e : Entry = one.0 in
-        let at = did.1.doubt e one.1 in
+        let at = on.doubt e one.1 in
         some_ran files did.0 [] (sym (append-nil did.0)) (λ none. refl) (Some at.0)
         (subst (λ (found : Option Entry). OpenTo store files (reopened (run write did.0 start).server found).list) (sym at.1)
-        (subst (λ (h : History). OpenTo store files (e ∷ h)) (sym did.1.lead.list) (subst (λ (s : Bytes). OpenTo s files (e ∷ left.list)) (sym same.0) one.2)))
+        (subst (λ (h : History). OpenTo store files (e ∷ h)) (sym on.lead.list) (subst (λ (s : Bytes). OpenTo s files (e ∷ left.list)) (sym same.0) one.2)))
 
     -- the first few of them, where a crash has left the files so
     few_ran : (files : Files) → (r.crashed ≡ None → ⊥) → Between (OpenTo a.opened.store) a.opened.history left.list NoneInDoubt (in_doubt (pair_of disk) a.after) files → Comes (r ∷ runs) files
@@ -113,7 +120,7 @@ module _ {D S O C : Type 0} (disk : DiskMeaning D) (clock : ClockMeaning C) (sou
       where
         by : IsLeft (OpenTo a.opened.store) b.part (λ e. ((b.part ≡ a.opened.history) × NoneInDoubt e) ⊎ ((b.part ≡ left.list) × in_doubt (pair_of disk) a.after e)) files → Comes (r ∷ runs) files
         by (inl opens) =
-            let f = did.1.lead.each b.within.0 b.part b.behind.0 (b.behind.1 ∙ ap (λ (h : History). b.behind.0 ++ h) (sym same.1)) b.within.1 in
+            let f = on.lead.each b.within.0 b.part b.behind.0 (b.behind.1 ∙ ap (λ (h : History). b.behind.0 ++ h) (sym same.1)) b.within.1 in
             some_ran files f.front f.rest f.events_are (λ none. absurd (crash none)) None
             (subst (λ (h : History). OpenTo store files h) (sym f.list) (subst (λ (s : Bytes). OpenTo s files b.part) (sym same.0) opens))
         by (inr one) = elim one.1 [
@@ -125,7 +132,7 @@ module _ {D S O C : Type 0} (disk : DiskMeaning D) (clock : ClockMeaning C) (sou
     none_left : (crash : r.crashed ≡ None → ⊥) (files others : Files) → Comes runs others → OpenAlike store others files → Comes (r ∷ runs) files
     none_left crash files others c same_files = record {
       events = c.events;
-      of_runs = (c.events, c.of_runs, of_run c.events c.events (inl (crash, refl)));
+      of_runs = (c.events, c.of_runs, hap.of_run c.events c.events (inl (crash, refl)));
       which = c.which;
       opens = alike store others files (world write (c.events ++ Reopens c.which ∷ [])).server.list c.opens same_files;
       headline = c.headline;
@@ -155,30 +162,68 @@ module _ {D S O C : Type 0} (disk : DiskMeaning D) (clock : ClockMeaning C) (sou
           headline = c.headline;
         }
 
-    -- ---- lines were answered
+    -- ---- files that were opened, and left otherwise
 
-    module _ {X : Type 0} (input : Input X) {Answered : Room (Pair D) → Room (Pair D) → Book → Type 0} (a : HasAnswered disk clock source sink r.log r.log' r.side r.side' r.input r.input' r.output r.output' r.clock_was r.clock_is r.status Answered) (shown : Shown input r a) (of_run : IsOfRun input r a) where
-      answered_left : (files : Files) → MayLeave disk r.log' r.side' files → Comes (r ∷ runs) files
-      answered_left files may =
+    module _ (a : Goes r) (Happened : Happening) (hap : HasHappened r a Happened) where
+      going_left : (files : Files) → MayLeave disk r.log' r.side' files → Comes (r ∷ runs) files
+      going_left files may =
           let there = subst (λ (d : D). disk.may_leave d files.0) a.same may.0 in
           let there' = subst (λ (d : D). disk.may_leave d files.1) a.same_side may.1 in
-          all_ran input r a shown of_run runs from files ((a.files r.tells r.tells_side).now files (inr there, inr there'))
+          all_ran r a Happened hap runs from files ((a.files r.tells r.tells_side).now files (inr there, inr there'))
 
-      answered_crashed : (files : Files) → (r.crashed ≡ None → ⊥) → LeftSince disk r.log' r.side' (disk.moment r.log) files → Comes (r ∷ runs) files
-      answered_crashed files crash may =
+      going_crashed : (files : Files) → (r.crashed ≡ None → ⊥) → LeftSince disk r.log' r.side' (disk.moment r.log) files → Comes (r ∷ runs) files
+      going_crashed files crash may =
           let there = subst (λ (d : D). disk.left_since d (disk.moment r.log) files.0) a.same may.0 in
           let there' = subst (λ (d : D). disk.may_leave d files.1) a.same_side may.1 in
           elim ((a.files r.tells r.tells_side).since_begun files (there, there')) [
-            | inl between ↦ few_ran input r a shown of_run runs from files crash between
-            | inr was ↦ none_left input r a shown of_run runs from crash files was.0 (before was.0 (begins was.0 was.1)) (subst (λ (s : Bytes). OpenAlike s was.0 files) (sym (same input r a shown of_run runs from).0) was.2)
+            | inl between ↦ few_ran r a Happened hap runs from files crash between
+            | inr was ↦ none_left r a Happened hap runs from crash files was.0 (before was.0 (begins was.0 was.1)) (subst (λ (s : Bytes). OpenAlike s was.0 files) (sym (same r a Happened hap runs from).0) was.2)
           ]
+
+    -- ---- what happened, by what the run did
+
+    is_of : (d : TheDid) → r.did ≡ d → (events these : List Event) → AreOfRun disk clock source sink write events r d these → AreOfRun disk clock source sink write events r r.did these
+    is_of d is events these x = subst (λ (d : TheDid). AreOfRun disk clock source sink write events r d these) (sym is) x
+
+    lines_happened : (a : HasAnswered disk clock source sink r.log r.log' r.side r.side' r.input r.input' r.output r.output' r.clock_was r.clock_is r.status (λ room after b. InputAnswered (pair_of disk) clock source sink room after r.clock_was r.clock_is r.input r.input' r.output r.output' b 65 r.status))
+        → r.did ≡ Batch (inr a) → HasHappened r a.went (Answers disk clock source sink line_input r a)
+    lines_happened a is = record {
+      shown = λ w same. batch_events disk clock source sink r.log r.log' r.side r.side' r.input r.input' r.output r.output' r.clock_was r.clock_is r.status a r.tells r.tells_side write w same;
+      leads = λ w events x. x.leads;
+      of_run = is_of (Batch (inr a)) is;
+    }
+
+    wire_happened : (provider : Bytes) (a : HasAnswered disk clock source sink r.log r.log' r.side r.side' r.input r.input' r.output r.output' r.clock_was r.clock_is r.status (λ room after b. IngestAnswered (pair_of disk) clock source sink provider Text7901 room after r.clock_was r.clock_is r.input r.input' r.output r.output' b 65 r.status))
+        → r.did ≡ Ingest Text7901 provider (inr a) → HasHappened r a.went (Answers disk clock source sink (wire_input provider) r a)
+    wire_happened provider a is = record {
+      shown = λ w same. wire_events disk clock source sink r.log r.log' r.side r.side' r.input r.input' r.output r.output' r.clock_was r.clock_is r.status provider a r.tells r.tells_side write w same;
+      leads = λ w events x. x.leads;
+      of_run = is_of (Ingest Text7901 provider (inr a)) is;
+    }
+
+    item_happened : (provider : Bytes) (a : HasAnswered disk clock source sink r.log r.log' r.side r.side' r.input r.input' r.output r.output' r.clock_was r.clock_is r.status (λ room after b. IngestAnswered (pair_of disk) clock source sink provider Ninjs room after r.clock_was r.clock_is r.input r.input' r.output r.output' b 65 r.status))
+        → r.did ≡ Ingest Ninjs provider (inr a) → HasHappened r a.went (Answers disk clock source sink (item_input provider) r a)
+    item_happened provider a is = record {
+      shown = λ w same. item_events disk clock source sink r.log r.log' r.side r.side' r.input r.input' r.output r.output' r.clock_was r.clock_is r.status provider a r.tells r.tells_side write w same;
+      leads = λ w events x. x.leads;
+      of_run = is_of (Ingest Ninjs provider (inr a)) is;
+    }
+
+    report_ran : (q : Query) (report : History → Bytes) (a : HasReported disk clock sink r.log r.log' r.side r.side' r.output r.output' r.clock_was r.clock_is r.status report) (d : TheDid) → r.did ≡ d
+        → ((before events : List Event) → AreOfGoing disk clock source sink (Reports disk clock source sink q report r a) r write before events → AreOfRun disk clock source sink write before r d events)
+        → HasHappened r a.went (Reports disk clock source sink q report r a)
+    report_ran q report a d is of = record {
+      shown = λ w same. report_happened disk clock sink q report r.log r.log' r.side r.side' r.output r.output' r.clock_was r.clock_is r.status a r.tells r.tells_side write w same;
+      leads = λ w events x. x.leads;
+      of_run = λ before events x. is_of d is before events (of before events x);
+    }
 
     -- ---- by what the run did
 
     left_now : (d : TheDid) → r.did ≡ d → (files : Files) → MayLeave disk r.log' r.side' files → Comes (r ∷ runs) files
-    left_now (Batch (inr a)) is files may = answered_left line_input a (are_events disk clock source sink r.log r.log' r.side r.side' r.input r.input' r.output r.output' r.clock_was r.clock_is r.status (Some job.Batch) (inr a)) (λ events these x. subst (λ (d : TheDid). AreOfRun disk clock source sink write events r d these) (sym is) x) files may
-    left_now (Ingest Text7901 provider (inr a)) is files may = answered_left (wire_input provider) a (are_events disk clock source sink r.log r.log' r.side r.side' r.input r.input' r.output r.output' r.clock_was r.clock_is r.status (Some (job.Ingest Text7901 provider)) (inr a)) (λ events these x. subst (λ (d : TheDid). AreOfRun disk clock source sink write events r d these) (sym is) x) files may
-    left_now (Ingest Ninjs provider (inr a)) is files may = answered_left (item_input provider) a (are_events disk clock source sink r.log r.log' r.side r.side' r.input r.input' r.output r.output' r.clock_was r.clock_is r.status (Some (job.Ingest Ninjs provider)) (inr a)) (λ events these x. subst (λ (d : TheDid). AreOfRun disk clock source sink write events r d these) (sym is) x) files may
+    left_now (Batch (inr a)) is files may = going_left a.went _ (lines_happened a is) files may
+    left_now (Ingest Text7901 provider (inr a)) is files may = going_left a.went _ (wire_happened provider a is) files may
+    left_now (Ingest Ninjs provider (inr a)) is files may = going_left a.went _ (item_happened provider a is) files may
     left_now (Batch (inl refused)) is files may =
         as_before (λ v events. subst (λ (d : TheDid). AreOfRun disk clock source sink v events r d events) (sym is) refl) files
         (refused_keeps disk store long r.log r.side list r.tells r.tells_side from.opens r.log' r.side' refused.why.why refused.why.refused files (counts_since disk r.log r.log' (refused.why.refused.crash r.tells r.tells_side).later r.side' files may))
@@ -186,6 +231,14 @@ module _ {D S O C : Type 0} (disk : DiskMeaning D) (clock : ClockMeaning C) (sou
         as_before (λ v events. subst (λ (d : TheDid). AreOfRun disk clock source sink v events r d events) (sym is) refl) files
         (refused_keeps disk store long r.log r.side list r.tells r.tells_side from.opens r.log' r.side' refused.why.why refused.why.refused files (counts_since disk r.log r.log' (refused.why.refused.crash r.tells r.tells_side).later r.side' files may))
     left_now (Ingest Ninjs provider (inl refused)) is files may =
+        as_before (λ v events. subst (λ (d : TheDid). AreOfRun disk clock source sink v events r d events) (sym is) refl) files
+        (refused_keeps disk store long r.log r.side list r.tells r.tells_side from.opens r.log' r.side' refused.why.why refused.why.refused files (counts_since disk r.log r.log' (refused.why.refused.crash r.tells r.tells_side).later r.side' files may))
+    left_now (Feed subscriber after (inr a)) is files may = going_left a.went _ (report_ran (query.Feed subscriber after) (feed_report_at subscriber after) a (Feed subscriber after (inr a)) is (λ before events x. x)) files may
+    left_now (Queue (inr a)) is files may = going_left a.went _ (report_ran query.Queue queue_report_at a (Queue (inr a)) is (λ before events x. x)) files may
+    left_now (Feed subscriber after (inl refused)) is files may =
+        as_before (λ v events. subst (λ (d : TheDid). AreOfRun disk clock source sink v events r d events) (sym is) refl) files
+        (refused_keeps disk store long r.log r.side list r.tells r.tells_side from.opens r.log' r.side' refused.why.why refused.why.refused files (counts_since disk r.log r.log' (refused.why.refused.crash r.tells r.tells_side).later r.side' files may))
+    left_now (Queue (inl refused)) is files may =
         as_before (λ v events. subst (λ (d : TheDid). AreOfRun disk clock source sink v events r d events) (sym is) refl) files
         (refused_keeps disk store long r.log r.side list r.tells r.tells_side from.opens r.log' r.side' refused.why.why refused.why.refused files (counts_since disk r.log r.log' (refused.why.refused.crash r.tells r.tells_side).later r.side' files may))
     left_now (Check (inl refused)) is files may =
@@ -214,9 +267,9 @@ module _ {D S O C : Type 0} (disk : DiskMeaning D) (clock : ClockMeaning C) (sou
         )
 
     left_then : (d : TheDid) → r.did ≡ d → (r.crashed ≡ None → ⊥) → (files : Files) → LeftByRun disk clock source sink r d files → Comes (r ∷ runs) files
-    left_then (Batch (inr a)) is crash files may = answered_crashed line_input a (are_events disk clock source sink r.log r.log' r.side r.side' r.input r.input' r.output r.output' r.clock_was r.clock_is r.status (Some job.Batch) (inr a)) (λ events these x. subst (λ (d : TheDid). AreOfRun disk clock source sink write events r d these) (sym is) x) files crash may
-    left_then (Ingest Text7901 provider (inr a)) is crash files may = answered_crashed (wire_input provider) a (are_events disk clock source sink r.log r.log' r.side r.side' r.input r.input' r.output r.output' r.clock_was r.clock_is r.status (Some (job.Ingest Text7901 provider)) (inr a)) (λ events these x. subst (λ (d : TheDid). AreOfRun disk clock source sink write events r d these) (sym is) x) files crash may
-    left_then (Ingest Ninjs provider (inr a)) is crash files may = answered_crashed (item_input provider) a (are_events disk clock source sink r.log r.log' r.side r.side' r.input r.input' r.output r.output' r.clock_was r.clock_is r.status (Some (job.Ingest Ninjs provider)) (inr a)) (λ events these x. subst (λ (d : TheDid). AreOfRun disk clock source sink write events r d these) (sym is) x) files crash may
+    left_then (Batch (inr a)) is crash files may = going_crashed a.went _ (lines_happened a is) files crash may
+    left_then (Ingest Text7901 provider (inr a)) is crash files may = going_crashed a.went _ (wire_happened provider a is) files crash may
+    left_then (Ingest Ninjs provider (inr a)) is crash files may = going_crashed a.went _ (item_happened provider a is) files crash may
     left_then (Batch (inl refused)) is crash files may =
         as_before (λ v events. subst (λ (d : TheDid). AreOfRun disk clock source sink v events r d events) (sym is) refl) files
         (refused_keeps disk store long r.log r.side list r.tells r.tells_side from.opens r.log' r.side' refused.why.why refused.why.refused files may)
@@ -224,6 +277,14 @@ module _ {D S O C : Type 0} (disk : DiskMeaning D) (clock : ClockMeaning C) (sou
         as_before (λ v events. subst (λ (d : TheDid). AreOfRun disk clock source sink v events r d events) (sym is) refl) files
         (refused_keeps disk store long r.log r.side list r.tells r.tells_side from.opens r.log' r.side' refused.why.why refused.why.refused files may)
     left_then (Ingest Ninjs provider (inl refused)) is crash files may =
+        as_before (λ v events. subst (λ (d : TheDid). AreOfRun disk clock source sink v events r d events) (sym is) refl) files
+        (refused_keeps disk store long r.log r.side list r.tells r.tells_side from.opens r.log' r.side' refused.why.why refused.why.refused files may)
+    left_then (Feed subscriber after (inr a)) is crash files may = going_crashed a.went _ (report_ran (query.Feed subscriber after) (feed_report_at subscriber after) a (Feed subscriber after (inr a)) is (λ before events x. x)) files crash may
+    left_then (Queue (inr a)) is crash files may = going_crashed a.went _ (report_ran query.Queue queue_report_at a (Queue (inr a)) is (λ before events x. x)) files crash may
+    left_then (Feed subscriber after (inl refused)) is crash files may =
+        as_before (λ v events. subst (λ (d : TheDid). AreOfRun disk clock source sink v events r d events) (sym is) refl) files
+        (refused_keeps disk store long r.log r.side list r.tells r.tells_side from.opens r.log' r.side' refused.why.why refused.why.refused files may)
+    left_then (Queue (inl refused)) is crash files may =
         as_before (λ v events. subst (λ (d : TheDid). AreOfRun disk clock source sink v events r d events) (sym is) refl) files
         (refused_keeps disk store long r.log r.side list r.tells r.tells_side from.opens r.log' r.side' refused.why.why refused.why.refused files may)
     left_then (Check (inl refused)) is crash files may =

@@ -17,7 +17,6 @@ use Rattle.run_status.specs.Output.{Wrote}
 use Rattle.line_run.specs.declared.ending.Ending.{Ending}
 use Rattle.line_run.specs.declared.ending.Ending.TheVariants as end
 use Rattle.world_laws.specs.World.{World, Event, run}
-use Rattle.news_room.specs.Steps.{entries}
 use Rattle.room_runs.specs.Lines.{LONGEST_INPUT}
 use Rattle.program_events.specs.Events.{Input, turn_events, turn_readings, world_texts}
 use Rattle.program_events.specs.Runs.{IsOneOf, Lead, Reads, AllHappened, SomeHappened, Happened, RunHappened}
@@ -188,7 +187,6 @@ module _ {X K C S A O : Type 0} (M : Meaning Entry X) (input : Input X) (means :
       answered = run_is.mid;
       happened = comes.did;
       line = run_is.line;
-      lead = subst (Lead write w comes.events) same comes.lead;
-      doubt = λ e d. comes.doubt e (doubts e d);
+      leads = record { lead = subst (Lead write w comes.events) same comes.lead; doubt = λ e d. comes.doubt e (doubts e d) };
     },
   )

@@ -5,6 +5,7 @@ pub mod Stories
 pub mod Begun
 pub mod Leading
 pub mod Happening
+pub mod Reports
 pub mod Runs
 pub mod Stores
 pub mod Chains

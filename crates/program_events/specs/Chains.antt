@@ -1,12 +1,15 @@
 -- Runs of the program and crashes, one behind the other, as one list of events from the opening on.
 use Rattle.std.specs.Prelude.{◌≡◌, ◌⊎◌, ℕ, List, [], ◌∷◌, ◌++◌, length, Option, Some, None}
 use Rattle.std.proofs.Common.{inl, inr}
+use Rattle.news_types.specs.declared.query.Query.{Query}
+use Rattle.news_types.specs.declared.query.Query.TheVariants as query
 use Rattle.news_types.specs.declared.words.Format.{Format}
 use Rattle.news_types.specs.declared.words.Format.TheVariants.{Ninjs, Text7901}
 use Rattle.news_types.specs.Books.{Book}
 use Rattle.news_types.specs.Doubt.{payloads}
 use Rattle.news_types.specs.Names.{Bytes}
 use Rattle.news_types.specs.Frames.{Writer}
+use Rattle.news_types.specs.History.{History}
 use Rattle.entry_codec.specs.Spelling.{entry_bytes}
 use Rattle.news_io.specs.Clock.{ClockMeaning}
 use Rattle.news_io.specs.Disk.{DiskMeaning}
@@ -19,13 +22,14 @@ use Rattle.news_pair.specs.Stands.{log_disk, side_disk}
 use Rattle.news_pair.specs.Steps.{Stays}
 use Rattle.news_pair.specs.Steps.Stays.{as_they_are, side_written, log_written}
 use Rattle.news_room.specs.Stands.{in_doubt}
+use Rattle.room_reports.specs.Reports.{feed_report_at, queue_report_at}
 use Rattle.store_files.specs.Files.{Files, OpenTo, MayLeave, LeftSince}
 use Rattle.world_laws.specs.Headline.{Headline}
 use Rattle.world_laws.specs.World.{World, Event, Reopens, happens, after}
-use Rattle.newsdesk_cli.specs.Command.{HasAnswered, IsBatch, IsIngest, IsCheck, IsPack, IsMade}
+use Rattle.newsdesk_cli.specs.Command.{HasAnswered, HasReported, IsBatch, IsIngest, IsReportOf, IsCheck, IsPack, IsMade}
 use Rattle.program_events.specs.Events.{Input, line_input}
 use Rattle.program_events.specs.Stories.{wire_input, item_input}
-use Rattle.program_events.specs.Runs.{RunHappened}
+use Rattle.program_events.specs.Runs.{RunHappened, ReportHappened}
 
 -- ---- a crash within packing
 
@@ -47,6 +51,8 @@ module _ {D S O C : Type 0} (disk : DiskMeaning D) (clock : ClockMeaning C) (sou
   pub data Did (log log' side side' : D) (i i' : S) (o o' : O) (c c' : C) (status : ℕ) : Type 0 where
     Batch : IsBatch disk clock source sink log log' side side' i i' o o' c c' status → Did log log' side side' i i' o o' c c' status
     Ingest : (format : Format) (provider : Bytes) → IsIngest disk clock source sink log log' side side' i i' o o' c c' status format provider → Did log log' side side' i i' o o' c c' status
+    Feed : (subscriber : Bytes) (after : ℕ) → IsReportOf disk clock sink log log' side side' o o' c c' status (feed_report_at subscriber after) → Did log log' side side' i i' o o' c c' status
+    Queue : IsReportOf disk clock sink log log' side side' o o' c c' status queue_report_at → Did log log' side side' i i' o o' c c' status
     Check : IsCheck disk sink log log' side side' o o' status → Did log log' side side' i i' o o' c c' status
     Pack : IsPack disk sink log log' side side' o o' status → Did log log' side side' i i' o o' c c' status
 
@@ -82,6 +88,8 @@ module _ {D S O C : Type 0} (disk : DiskMeaning D) (clock : ClockMeaning C) (sou
   abbrev pub LeftByRun : (r : Run) → Did r.log r.log' r.side r.side' r.input r.input' r.output r.output' r.clock_was r.clock_is r.status → Files → Type 0
   LeftByRun r (Batch did) files = LeftSince disk r.log' r.side' (disk.moment r.log) files
   LeftByRun r (Ingest format provider did) files = LeftSince disk r.log' r.side' (disk.moment r.log) files
+  LeftByRun r (Feed subscriber after did) files = LeftSince disk r.log' r.side' (disk.moment r.log) files
+  LeftByRun r (Queue did) files = LeftSince disk r.log' r.side' (disk.moment r.log) files
   LeftByRun r (Check did) files = LeftSince disk r.log' r.side' (disk.moment r.log) files
   LeftByRun r (Pack did) files = LeftByPacking r did files
 
@@ -106,27 +114,41 @@ module _ {D S O C : Type 0} (disk : DiskMeaning D) (clock : ClockMeaning C) (sou
 
   -- ---- its events
 
-  -- what a run over an input did, from a world on: these events, and others that a crash has undone
-  module _ {X : Type 0} (input : Input X) {Answered : Room (Pair D) → Room (Pair D) → Book → Type 0} (r : Run)
-      (did : HasAnswered disk clock source sink r.log r.log' r.side r.side' r.input r.input' r.output r.output' r.clock_was r.clock_is r.status Answered) where
+  -- what went on from opened files, from a world on: these events, and others that a crash has undone
+  module _ (Happened : Writer → World → List Event → Type 0) (r : Run) where
     pub record RunDid (write : Writer) (w : World) (events : List Event) : Type 0 where
       pub undone : List Event
       pub whole : r.crashed ≡ None → undone ≡ []
-      pub happened : RunHappened input clock source sink write w r.input r.input' r.output r.output' r.clock_was r.clock_is r.status (did.files r.tells r.tells_side).list (in_doubt (pair_of disk) did.after) (events ++ undone)
+      pub happened : Happened write w (events ++ undone)
 
     -- the files were opened as one of the doubt or none says, and then the run did what it did; or a crash has left them as they were
-    abbrev pub AreOfAnswers : Writer → List Event → List Event → Type 0
-    AreOfAnswers write before events = ((r.crashed ≡ None → ⊥) × (events ≡ before))
+    abbrev pub AreOfGoing : Writer → List Event → List Event → Type 0
+    AreOfGoing write before events = ((r.crashed ≡ None → ⊥) × (events ≡ before))
         ⊎ ((which : Option ℕ) × (these : List Event) × (events ≡ (before ++ Reopens which ∷ []) ++ these) × RunDid write (world write (before ++ Reopens which ∷ [])) these)
+
+  -- the input of a run was answered as in the world
+  abbrev pub Answers : {X : Type 0} → Input X → {Answered : Room (Pair D) → Room (Pair D) → Book → Type 0} → (r : Run)
+      → HasAnswered disk clock source sink r.log r.log' r.side r.side' r.input r.input' r.output r.output' r.clock_was r.clock_is r.status Answered → Writer → World → List Event → Type 0
+  Answers input r did write w events =
+      RunHappened input clock source sink write w r.input r.input' r.output r.output' r.clock_was r.clock_is r.status (did.went.files r.tells r.tells_side).list (in_doubt (pair_of disk) did.went.after) events
+
+  -- a question was answered by its report on the list of the world
+  abbrev pub Reports : Query → (report : History → Bytes) → (r : Run) → HasReported disk clock sink r.log r.log' r.side r.side' r.output r.output' r.clock_was r.clock_is r.status report → Writer → World → List Event → Type 0
+  Reports question report r did write w events =
+      ReportHappened clock sink question report write w r.output r.output' r.clock_was r.clock_is r.status (did.went.files r.tells r.tells_side).list (in_doubt (pair_of disk) did.went.after) events
 
   -- any other run is no event
   abbrev pub AreOfRun : Writer → List Event → (r : Run) → Did r.log r.log' r.side r.side' r.input r.input' r.output r.output' r.clock_was r.clock_is r.status → List Event → Type 0
-  AreOfRun write before r (Batch (inr did)) events = AreOfAnswers line_input r did write before events
+  AreOfRun write before r (Batch (inr did)) events = AreOfGoing (Answers line_input r did) r write before events
   AreOfRun write before r (Batch (inl refused)) events = events ≡ before
-  AreOfRun write before r (Ingest Text7901 provider (inr did)) events = AreOfAnswers (wire_input provider) r did write before events
+  AreOfRun write before r (Ingest Text7901 provider (inr did)) events = AreOfGoing (Answers (wire_input provider) r did) r write before events
   AreOfRun write before r (Ingest Text7901 provider (inl refused)) events = events ≡ before
-  AreOfRun write before r (Ingest Ninjs provider (inr did)) events = AreOfAnswers (item_input provider) r did write before events
+  AreOfRun write before r (Ingest Ninjs provider (inr did)) events = AreOfGoing (Answers (item_input provider) r did) r write before events
   AreOfRun write before r (Ingest Ninjs provider (inl refused)) events = events ≡ before
+  AreOfRun write before r (Feed subscriber after (inr did)) events = AreOfGoing (Reports (query.Feed subscriber after) (feed_report_at subscriber after) r did) r write before events
+  AreOfRun write before r (Feed subscriber after (inl refused)) events = events ≡ before
+  AreOfRun write before r (Queue (inr did)) events = AreOfGoing (Reports query.Queue queue_report_at r did) r write before events
+  AreOfRun write before r (Queue (inl refused)) events = events ≡ before
   AreOfRun write before r (Check did) events = events ≡ before
   AreOfRun write before r (Pack did) events = events ≡ before
 

@@ -1,20 +1,26 @@
 -- A run over the members of an input as events of a world.
-use Rattle.std.specs.Prelude.{◌≡◌, ◌<◌, ℕ, List, ◌++◌, length, take, Option, Some, Result, Ok, Err}
-use Rattle.std.proofs.Common.{inr}
+use Rattle.std.specs.Prelude.{◌≡◌, ◌<◌, ℕ, List, [], ◌∷◌, ◌++◌, length, take, Option, Some, Result, Ok, Err}
+use Rattle.std.proofs.Common.{inl, inr}
 use Rattle.std.specs.List.{slice_get}
 use Rattle.news_types.specs.declared.entry.Entry.{Entry}
 use Rattle.news_types.specs.declared.words.Format.TheVariants.{Ninjs, Text7901}
 use Rattle.news_types.specs.Books.{Book}
 use Rattle.news_types.specs.History.{History}
+use Rattle.news_types.specs.declared.query.Query.{Query}
+use Rattle.news_types.specs.declared.query.Query.TheVariants as query
+use Rattle.news_types.specs.Calls.{Fate, IsKept, IsFull, IsFailed, IsStarved}
+use Rattle.news_types.specs.Names.{Bytes}
 use Rattle.news_types.specs.Frames.{Writer}
 use Rattle.news_io.specs.Clock.{ClockMeaning, Gave}
 use Rattle.news_io.specs.Disk.{DiskMeaning}
+use Rattle.news_io.specs.Link.{LinkMeaning}
 use Rattle.news_io.specs.Sink.{SinkMeaning}
 use Rattle.news_io.specs.Source.{SourceMeaning}
 use Rattle.line_run.specs.Run.{WasRead}
 use Rattle.line_run.specs.Status.{status_of}
 use Rattle.run_status.specs.Output.{Wrote, Told}
 use Rattle.run_status.specs.Status.{number_of, line_of}
+use Rattle.run_status.specs.declared.status.Status.TheVariants as status
 use Rattle.line_run.specs.Turns.{Turn, asked}
 use Rattle.line_run.specs.declared.ending.Ending.{Ending}
 use Rattle.line_run.specs.declared.ending.Ending.TheVariants as end
@@ -23,12 +29,13 @@ use Rattle.news_pair.specs.declared.pair.Pair.{Pair}
 use Rattle.news_room.specs.declared.room.Room.{Room}
 use Rattle.news_room.specs.Stands.{in_doubt}
 use Rattle.world_laws.specs.World.{World, Event, run}
-use Rattle.newsdesk_cli.specs.Command.{HasAnswered, Does}
+use Rattle.newsdesk_cli.specs.Command.{HasGoneOn, HasAnswered, IsReportOf, Does}
+use Rattle.room_reports.specs.Reports.{feed_report_at, queue_report_at, IsWrittenOut, IsStopped}
 use Rattle.room_runs.specs.Lines.{LONGEST_INPUT}
-use Rattle.newsdesk_cli.specs.declared.words.Job.{Job}
-use Rattle.newsdesk_cli.specs.declared.words.Job.TheVariants.{Batch, Ingest}
+use Rattle.command_words.specs.declared.words.Job.{Job}
+use Rattle.command_words.specs.declared.words.Job.TheVariants.{Batch, Ingest, Feed, Queue}
 use Rattle.program_events.specs.Stories.{wire_input, item_input}
-use Rattle.program_events.specs.Events.{Input, line_input, turn_events, turn_readings, world_texts, AreBegun}
+use Rattle.program_events.specs.Events.{Input, line_input, turn_events, turn_readings, world_texts, AreBegun, question_events}
 
 -- the entry is one of those in doubt
 abbrev pub IsOneOf : List Entry → Entry → Type 0
@@ -45,6 +52,11 @@ pub record Front (write : Writer) (w : World) (events : List Event) (h : History
 pub record Lead (write : Writer) (w : World) (events : List Event) (g : History) : Type 0 where
   pub list : (run write events w).server.list ≡ g
   pub each : (later part first : List Entry) → part ≡ first ++ w.server.list → g ≡ later ++ part → Front write w events part
+
+-- they lead from the world's list to this one, and whatever is in doubt then is in doubt in the world
+pub record LeadsOn (write : Writer) (w : World) (g : History) (D : Entry → Type 0) (events : List Event) : Type 0 where
+  pub lead : Lead write w events g
+  pub doubt : (e : Entry) → D e → IsOneOf (run write events w).server.doubt e
 
 -- ---- the events of members, with the readings that were taken, and what was written of their answers
 
@@ -85,8 +97,7 @@ module _ {X C O : Type 0} (input : Input X) (clock : ClockMeaning C) (sink : Sin
 
 -- ---- a run
 
--- what a run did is these events of a world: the answers to its members are those of the world, and they lead to the list g. Whatever is in doubt
--- behind the run is in doubt in the world
+-- what a run did is these events of a world: the answers to its members are those of the world, and they lead to the list g
 pub record RunHappened {X C S O : Type 0} (input : Input X) (clock : ClockMeaning C) (source : SourceMeaning S) (sink : SinkMeaning O) (write : Writer) (w : World) (i i' : S) (o o' : O) (c c' : C) (status : ℕ) (g : History) (D : Entry → Type 0) (events : List Event) : Type 0 where
   pub result : Result (Unit {0}) Ending
   pub status_is : status ≡ number_of (status_of result)
@@ -96,28 +107,61 @@ pub record RunHappened {X C S O : Type 0} (input : Input X) (clock : ClockMeanin
   pub answered : O
   pub happened : Happened input clock sink write w c c' o answered read more result events
   pub line : Told sink answered o' (line_of (status_of result))
-  pub lead : Lead write w events g
-  pub doubt : (e : Entry) → D e → IsOneOf (run write events w).server.doubt e
+  pub leads : LeadsOn write w g D events
+
+-- ---- a report
+
+-- what was written of a report, by what became of its tick's entry: a tick that was not kept is told, and nothing is reported
+abbrev pub IsToldBehind : {O : Type 0} → SinkMeaning O → Bytes → O → O → ℕ → Fate → Type 0
+IsToldBehind sink report o o' number IsKept = IsWrittenOut sink report o o' number
+IsToldBehind sink report o o' number IsFull = IsStopped sink status.Full o o' number
+IsToldBehind sink report o o' number IsFailed = IsStopped sink status.Store o o' number
+IsToldBehind sink report o o' number IsStarved = ⊥
+
+-- a report is these events of a world, a tick and then the question: what was written is the report on the list that the tick has left
+pub record ReportHappened {C O : Type 0} (clock : ClockMeaning C) (sink : SinkMeaning O) (question : Query) (report : History → Bytes) (write : Writer) (w : World) (o o' : O) (c c' : C) (number : ℕ) (g : History) (D : Entry → Type 0) (events : List Event) : Type 0 where
+  pub at : ℕ
+  pub reads : Reads clock c c' (at ∷ [])
+  pub fate : Fate
+  pub events_are : events ≡ question_events question at fate
+  pub told : IsToldBehind sink (report (run write events w).server.list) o o' number fate
+  pub leads : LeadsOn write w g D events
+
+-- ---- by what the words do
+
+module _ {D : Type 0} (disk : DiskMeaning D) (log log' side side' : D) (status : ℕ) where
+  -- what went on from opened files is events of each world that has their list, and leads to the list that they are left with
+  abbrev pub GoesAsEvents : HasGoneOn disk log log' side side' status → (Writer → World → History → (Entry → Type 0) → List Event → Type 0) → Type 0
+  GoesAsEvents went Happened = (tells : disk.tells log) → (tells' : disk.tells side) → (write : Writer) (w : World) → w.server.list ≡ went.opened.history
+      → (events : List Event) × Happened write w (went.files tells tells').list (in_doubt (pair_of disk) went.after) events
+
+module _ {D O C : Type 0} (disk : DiskMeaning D) (clock : ClockMeaning C) (sink : SinkMeaning O) (log log' side side' : D) (o o' : O) (c c' : C) (status : ℕ) where
+  -- so is a report, where there was one: its tick, and its question
+  abbrev pub ReportIsEvents : Query → (report : History → Bytes) → IsReportOf disk clock sink log log' side side' o o' c c' status report → Type 0
+  ReportIsEvents question report (inl refused) = Unit {0}
+  ReportIsEvents question report (inr did) = GoesAsEvents disk log log' side side' status did.went (λ write w g D events. ReportHappened clock sink question report write w o o' c c' status g D events)
 
 module _ {D S O C : Type 0} (disk : DiskMeaning D) (clock : ClockMeaning C) (source : SourceMeaning S) (sink : SinkMeaning O)
     (log log' side side' : D) (i i' : S) (o o' : O) (c c' : C) (status : ℕ) where
-  -- what the files and the input were answered is events of each world that has the list to which the files opened, and leads to the list that they are left with
+  -- so is what an input was answered
   abbrev pub AnswersAreEvents : {X : Type 0} → Input X → {Answered : Room (Pair D) → Room (Pair D) → Book → Type 0} → HasAnswered disk clock source sink log log' side side' i i' o o' c c' status Answered → Type 0
-  AnswersAreEvents input did = (tells : disk.tells log) → (tells' : disk.tells side) → (write : Writer) (w : World) → w.server.list ≡ did.opened.history
-      → (events : List Event) × RunHappened input clock source sink write w i i' o o' c c' status (did.files tells tells').list (in_doubt (pair_of disk) did.after) events
+  AnswersAreEvents input did = GoesAsEvents disk log log' side side' status did.went (λ write w g D events. RunHappened input clock source sink write w i i' o o' c c' status g D events)
 
-  -- so it is with lines and with stories; whatever else the program did is no event
-  abbrev pub AreEvents : (job : Option Job) → Does disk clock source sink log log' side side' i i' o o' c c' status job → Type 0
-  AreEvents (Some Batch) (inr did) = AnswersAreEvents line_input did
-  AreEvents (Some (Ingest Text7901 provider)) (inr did) = AnswersAreEvents (wire_input provider) did
-  AreEvents (Some (Ingest Ninjs provider)) (inr did) = AnswersAreEvents (item_input provider) did
-  AreEvents job did = Unit {0}
+  module _ {L : Type 0} (link : LinkMeaning L) (l l' : List L) where
+    -- what the words do is events. What is pushed is events turn by turn, as its contract says; all else is no event
+    abbrev pub AreEvents : (job : Option Job) → Does disk clock source sink link log log' side side' i i' o o' c c' l l' status job → Type 0
+    AreEvents (Some Batch) (inr did) = AnswersAreEvents line_input did
+    AreEvents (Some (Ingest Text7901 provider)) (inr did) = AnswersAreEvents (wire_input provider) did
+    AreEvents (Some (Ingest Ninjs provider)) (inr did) = AnswersAreEvents (item_input provider) did
+    AreEvents (Some (Feed subscriber after)) did = ReportIsEvents disk clock sink log log' side side' o o' c c' status (query.Feed subscriber after) (feed_report_at subscriber after) did.1
+    AreEvents (Some Queue) did = ReportIsEvents disk clock sink log log' side side' o o' c c' status query.Queue queue_report_at did.1
+    AreEvents job did = Unit {0}
 
-  -- what the words do, and that it is events of the world
-  abbrev pub HasHappened : Option Job → Type 0
-  HasHappened job = (did : Does disk clock source sink log log' side side' i i' o o' c c' status job) × AreEvents job did
+    -- what the words do, and that it is events of the world
+    abbrev pub HasHappened : Option Job → Type 0
+    HasHappened job = (did : Does disk clock source sink link log log' side side' i i' o o' c c' l l' status job) × AreEvents job did
 
 -- whatever the program does by its contract is events of the world
-abbrev pub RunsAreEvents : {D S O C : Type 0} → DiskMeaning D → ClockMeaning C → SourceMeaning S → SinkMeaning O → Type 0
-RunsAreEvents {D = D} {S = S} {O = O} {C = C} disk clock source sink = (log log' side side' : D) (i i' : S) (o o' : O) (c c' : C) (status : ℕ) (job : Option Job)
-    → (did : Does disk clock source sink log log' side side' i i' o o' c c' status job) → AreEvents disk clock source sink log log' side side' i i' o o' c c' status job did
+abbrev pub RunsAreEvents : {D S O C L : Type 0} → DiskMeaning D → ClockMeaning C → SourceMeaning S → SinkMeaning O → LinkMeaning L → Type 0
+RunsAreEvents {D = D} {S = S} {O = O} {C = C} {L = L} disk clock source sink link = (log log' side side' : D) (i i' : S) (o o' : O) (c c' : C) (l l' : List L) (status : ℕ) (job : Option Job)
+    → (did : Does disk clock source sink link log log' side side' i i' o o' c c' l l' status job) → AreEvents disk clock source sink log log' side side' i i' o o' c c' status link l l' job did
