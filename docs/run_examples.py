@@ -5,7 +5,7 @@
 
 An example is a block whose first line begins with `$ `: commands, each with what it prints behind it; behind `$ cat > FILE` stands what
 the file is to hold. The blocks of a page share one folder, which is made for it and taken away. A release is compared as far as it is
-the present second: it is another one each time.
+the present second, as a number or as a date with its time: it is another one each time.
 """
 import os
 import re
@@ -15,7 +15,7 @@ import tempfile
 
 TOP = os.path.dirname(os.path.dirname(os.path.abspath(__file__)))
 PAGES = ("README.md", "docs/DESK.md", "docs/OPERATING.md")
-PRESENT = re.compile(r"\b1[7-9]\d{8}\b")
+PRESENT = re.compile(r"\b1[7-9]\d{8}\b|\b20[2-9]\d-\d\d-\d\dT\d\d:\d\d:\d\dZ")
 
 
 def blocks(text):
