@@ -25,7 +25,7 @@ const QUEUE: &str =
 ";
 
 const DRAIN: &str =
-    "newsdesk drain STORE NAME ADDRESS ..     send what is due to these receivers, each with its host and port, until nothing is
+    "newsdesk drain STORE NAME ADDRESS ..    send what is due to these receivers, each with its host and port, until nothing is
 ";
 
 const CHECK: &str =

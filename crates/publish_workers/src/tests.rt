@@ -382,7 +382,7 @@ fn links_are_drained_in_turn(rt: HostRuntime) {
     );
     assert_eq!(rt;
         output.passed(),
-        b"alpha 1 link-fault\nbeta 1 delivered\n{\"status\":10}\n"
+        b"alpha 1 link-fault\nbeta 1 delivered\n{\"status\":10}\n".as_slice()
     );
     // Three requests, two attempts, one receipt.
     assert_eq!(rt; room.front(), 6);
