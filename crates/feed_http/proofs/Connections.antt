@@ -1,5 +1,5 @@
 -- How a connection goes on, and how it ends.
-use Rattle.std.specs.Prelude.{◌≡◌, ◌⊎◌, ◌<◌, ◌≤◌, ◌+◌, ℕ, ◌++◌, List, [], ◌∷◌, length, true, false, Option, Some, None, Result, Ok, Err, OnOk}
+use Rattle.std.specs.Prelude.{◌≡◌, ◌⊎◌, ◌<◌, ◌+◌, ℕ, ◌++◌, List, [], ◌∷◌, false, None, Result, Ok, Err, OnOk}
 use Rattle.std.proofs.Common.{refl, sym, ap, ◌∙◌, subst, append_assoc, arith, ⊎_elim, inl, inr}
 use Rattle.std.proofs.lemmas.List.{append-nil, flat_map_more, length_push}
 use Rattle.news_io.specs.Faults.{Rose, Counts}
@@ -15,8 +15,8 @@ use Rattle.feed_http.specs.declared.answers.HttpAnswer.{HttpAnswer}
 use Rattle.feed_http.specs.declared.ended.Ended.{Ended}
 use Rattle.feed_http.specs.declared.ended.Ended.TheVariants.{Stopped, Closed, Limit, HeadFault, TooLarge, Chunked, ReadFault, WriteFault, Memory}
 use Rattle.feed_http.specs.declared.exchange.Turned.{Turned}
-use Rattle.feed_http.specs.Exchanges.{Exchange, exchange_bytes, response_bytes, requests, readings, responses, Turns, IsOpen, AllOpen, Awaits, EndsIn}
-use Rattle.feed_http.specs.Served.{notice_bytes, IsRefusal, Refuses, IsEnd, WroteOrFailed, WroteAll, IsWritten, Served}
+use Rattle.feed_http.specs.Exchanges.{Exchange, exchange_bytes, requests, responses, Awaits, EndsIn}
+use Rattle.feed_http.specs.Served.{notice_bytes, Refuses, IsEnd, WroteOrFailed, WroteAll, IsWritten, Served}
 use Rattle.feed_http.specs.Serving.{IsTurned, Refused, CutShort, IsRefused, Running}
 use Rattle.feed_http.proofs.Exchanges.{requests_push, readings_push, turns_push, open_push, said_more, no_tail}
 

@@ -1,2 +1,11 @@
 pub mod Exchanges
 pub mod Connections
+pub mod Outcomes
+pub mod Coming
+pub mod Doubts
+pub mod Calling
+pub mod Questions
+pub mod Callers
+pub mod ReadAs
+pub mod Requests
+pub mod Statuses

@@ -1,3 +1,6 @@
+pub mod Outcome
+pub mod Turn
+pub mod Laws
 pub mod Exchanges
 pub mod Served
 pub mod Serving

@@ -1,5 +1,5 @@
 -- What a connection came to.
-use Rattle.std.specs.Prelude.{◌≡◌, ◌⊎◌, ℕ, ◌≤◌, ◌++◌, List, [], ◌∷◌, length, true, false, Option, Some, None}
+use Rattle.std.specs.Prelude.{◌≡◌, ◌⊎◌, ℕ, ◌++◌, List, [], length, true, Some, None}
 use Rattle.news_io.specs.Faults.{Rose}
 use Rattle.news_io.specs.Source.{SourceMeaning}
 use Rattle.news_io.specs.Sink.{SinkMeaning}
@@ -13,7 +13,7 @@ use Rattle.desk_routes.specs.Responses.{notice_response}
 use Rattle.feed_http.specs.declared.answers.HttpAnswer.{HttpAnswer}
 use Rattle.feed_http.specs.declared.ended.Ended.{Ended}
 use Rattle.feed_http.specs.declared.ended.Ended.TheVariants.{Stopped, Closed, Limit, HeadFault, TooLarge, Chunked, ReadFault, WriteFault, Memory}
-use Rattle.feed_http.specs.Exchanges.{Exchange, requests, readings, responses, response_bytes, Turns, IsOpen, AllOpen, Awaits, EndsIn}
+use Rattle.feed_http.specs.Exchanges.{Exchange, requests, readings, responses, response_bytes, Turns, AllOpen, Awaits, EndsIn}
 
 -- ---- endings
 

@@ -1,13 +1,12 @@
-use Rattle.std.specs.Prelude.{◌≡◌, ◌<◌, ◌++◌, ◌∷◌, [], List, ℕ, length, Result, None, Some, Ok}
-use Rattle.std.proofs.Common.{refl, sym, ap, ◌∙◌, subst, arith, inl, inr}
-use Rattle.std.proofs.lemmas.List.{append-nil}
+use Rattle.std.specs.Prelude.{◌≡◌, ◌<◌, ◌++◌, [], List, ℕ, length, Result, Ok}
+use Rattle.std.proofs.Common.{refl, sym, ◌∙◌, subst, arith, inl, inr}
 use Rattle.news_io.specs.Faults.{Counts}
 use Rattle.news_io.specs.declared.faults.Failed.{Failed}
 use Rattle.desk_routes.specs.declared.response.Notice.TheVariants as notice
 use Rattle.feed_http.specs.declared.ended.Ended.TheVariants as ended
 use Rattle.feed_http.specs.Served.{notice_bytes, Refuses}
 use Rattle.feed_http.specs.Serving.{Running}
-use Rattle.feed_http.proofs.Connections.{exchange_of, begins_none, plain_all, wrote_tail, all_last, goes_on, ends_with, last_of, tried_last, ends_now, awaits, ends_refused}
+use Rattle.feed_http.proofs.Connections.{exchange_of, begins_none, wrote_tail, all_last, goes_on, ends_with, last_of, tried_last, ends_now, awaits, ends_refused}
 use Rattle.feed_http.proofs.connection.serve.Goals as goal
 
 calm_from : (before now : ℕ) (r : Result (Unit {0}) Failed) (u : Unit {0}) → Counts before now r → r ≡ Ok u → now ≡ before

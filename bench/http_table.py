@@ -1,0 +1,628 @@
+#!/usr/bin/env python3
+"""A table of HTTP requests with what each is answered, and what sends it through a real socket.
+
+    bench/http_table.py            # each connection by curl, or as bytes where curl cannot send it, to `plain_server` on a socket
+    bench/http_table.py --write    # writes the table as crates/plain_server/stdin and stdout, which the gate runs
+
+What is expected is worked by hand from the rules of the newsroom, in the order of its statuses, and written below; the JSON, the frames and
+the lengths are made here, by Python's own library. A connection is served by a newsroom of its own without an entry, whose clock shows 1000
+at the first request and a second more at each.
+"""
+import json
+import os
+import socket
+import subprocess
+import sys
+import threading
+import uuid
+
+TOP = os.path.dirname(os.path.dirname(os.path.abspath(__file__)))
+SERVER = os.path.join(TOP, "crates/plain_server/out/plain_server")
+GATE = os.path.join(TOP, "crates/plain_server")
+STORE = uuid.UUID("6ba7b810-9dad-11d1-80b4-00c04fd430c8")
+EMPTY_LOG = 65
+LIMIT = 1073737728
+JSON, OCTETS = "application/json", "application/octet-stream"
+
+
+# ---- requests and responses
+
+
+class Ask:
+    """A request, and what it is answered: a status, a body and its media type; or no status, where it is not answered."""
+
+    def __init__(self, line, user, wanted, send=None, headers=(), version="1.1"):
+        self.method, self.target = line.split(" ", 1)
+        self.send = send if send is None or isinstance(send, str) else packed(send)
+        self.headers = ([("X-User", user)] if user is not None else []) + list(headers)
+        self.version = version
+        self.status, self.body, self.media = wanted
+
+    def bytes(self):
+        headers = list(self.headers)
+        if self.send is not None and not any(name.lower() in ("content-length", "transfer-encoding") for name, _ in headers):
+            headers.append(("Content-Length", str(len(self.send.encode()))))
+        lines = [f"{self.method} {self.target} HTTP/{self.version}"] + [f"{name}: {value}" for name, value in headers]
+        return ("".join(line + "\r\n" for line in lines) + "\r\n" + (self.send or "")).encode()
+
+    def curl(self):
+        """The words of curl that send it. It sends a header without a value by a semicolon."""
+        words = ["-q", "-s", "-i", "-X", self.method, "--path-as-is", "--request-target", self.target, "--max-time", "20", "-H", "Expect:"]
+        words += ["--http1.0"] if self.version == "1.0" else []
+        for name, value in self.headers:
+            words += ["-H", f"{name}: {value}" if value else f"{name};"]
+        return words + (["--data-binary", self.send] if self.send is not None else [])
+
+    def answer(self):
+        return b"" if self.status is None else response(self.status, self.body, self.media)
+
+
+class Raw:
+    """Bytes that are sent as they are, and how they are answered."""
+
+    def __init__(self, sent, *wanted):
+        self.sent = sent if isinstance(sent, bytes) else sent.encode()
+        self.wanted = wanted
+
+    def bytes(self):
+        return self.sent
+
+    def answer(self):
+        return b"".join(response(*one) for one in self.wanted)
+
+
+class Connection:
+    def __init__(self, title, ended, *asks, used=EMPTY_LOG, failing=0):
+        self.title, self.ended, self.asks, self.used, self.failing = title, ended, asks, used, failing
+
+    def bytes(self):
+        return b"".join(ask.bytes() for ask in self.asks)
+
+    def answer(self):
+        return b"".join(ask.answer() for ask in self.asks)
+
+    def is_raw(self):
+        return any(isinstance(ask, Raw) for ask in self.asks)
+
+
+def response(status, body=b"", media=JSON):
+    body = body.encode() if isinstance(body, str) else body
+    return f"HTTP/1.1 {status} \r\nContent-Type: {media}\r\nContent-Length: {len(body)}\r\n\r\n".encode() + body
+
+
+def packed(value):
+    return json.dumps(value, separators=(",", ":"))
+
+
+def keyed(**members):
+    """An answer: compact, its keys in byte order."""
+    return json.dumps(members, separators=(",", ":"), sort_keys=True)
+
+
+# ---- answers
+
+
+def done(entry=0, item=0, publication=0, release=0, word="done"):
+    members = {name: value for name, value in (("entry", entry), ("item", item), ("publication", publication)) if value}
+    return 200, keyed(answer=word, **members, **({"release": release} if publication else {})), JSON
+
+
+def told(word, **members):
+    return 200, keyed(answer=word, **members), JSON
+
+
+def feed(subscriber, length, *rows):
+    names = ("k", "publication", "item", "version", "kind", "release")
+    return told("feed", subscriber=subscriber, length=length, entries=[dict(sorted(zip(names, row))) for row in rows])
+
+
+def queue(*rows):
+    names = ("subscriber", "length", "acked", "tries", "state")
+    return told("queue", feeds=[dict(sorted(zip(names, row))) for row in rows])
+
+
+def item(state, story, version, number=1, **more):
+    whole = {"kind": "text", "urgency": 0, "html": False}
+    whole.update({name: "" for name in ("slugline", "headline", "byline", "language", "category", "body", "copyright")})
+    whole.update(story)
+    return told("item", item=number, state=state, story=dict(sorted(whole.items())), version=version, **more)
+
+
+DENIALS = (
+    "OutOfTurn NumberUsed UnknownUser NoPrivilege UnknownThing NameTaken NotMember WrongState NotLocked LockedBy NotReleased "
+    "AlreadyReleased BothTimes PastMoment ReceiptAhead NotPaused FilterOrder BadOperand Limit"
+).split()
+
+
+def denied(denial, **carried):
+    number = DENIALS.index(denial) + 1
+    status = 403 if number in (3, 4, 7) else 404 if number == 5 else 409
+    return status, keyed(answer="denied", denial=denial, number=number, **carried), JSON
+
+
+def unknown(thing):
+    return denied("UnknownThing", thing=thing)
+
+
+def bad(name):
+    return 400, keyed(answer="bad", property=name), JSON
+
+
+def fault(what, **property):
+    return 400, keyed(answer="fault", what=what, **property), JSON
+
+
+def bare(status):
+    return status, "", JSON
+
+
+NOT_ANSWERED = (None, "", JSON)
+
+
+def frame(subscriber, k, payload):
+    payload = payload.encode("latin-1") if isinstance(payload, str) else payload
+    return 200, f"FRAME {subscriber} {k} {len(payload)}\n".encode() + payload, OCTETS
+
+
+# ---- requests
+
+
+def post(by, number, do, wanted, /, **fields):
+    return Ask("POST /requests", by, wanted, {"number": number, "do": do, **fields})
+
+
+def get(target, user, wanted, **more):
+    return Ask("GET " + target, user, wanted, **more)
+
+
+def receipt(subscriber, user, n, wanted):
+    return Ask(f"POST /feeds/{subscriber}/receipts", user, wanted, {"n": n})
+
+
+def ingest(provider, user, value, wanted):
+    return Ask(f"POST /ingest/{provider}/ninjs", user, wanted, value)
+
+
+def city(user="admin", number=1, wanted=None):
+    return post(user, number, "add_desk", wanted or done(number), desk="city")
+
+
+FIRE = {"headline": "Fire", "slugline": "fire", "language": "en", "urgency": 3, "body": "Smoke."}
+WIRE = {"uri": "http://x.example/1", "type": "text", "headline": "Fire", "body_text": "Smoke."}
+URI = "urn:uuid:" + str(uuid.uuid5(STORE, "item:1"))
+
+# ---- the table
+
+ROW = 'POST /requests HTTP/1.1\r\nHost: n\r\nX-User: admin\r\n{}\r\n\r\n{{"number":1,"do":"add_desk","desk":"city"}}'
+
+WORKED = [
+    Connection("the worked row: a desk is added", "Closed", Raw(ROW.format("Content-Length: 42"), done(1))),
+    Connection("the worked row: the body comes in a coding", "Chunked", Raw(ROW.format("Transfer-Encoding: chunked"), bare(501))),
+    Connection(
+        "nothing is answered behind a stop", "Stopped { place: 1 }", post("admin", 1, "stop", done(1)), get("/queue", "admin", NOT_ANSWERED)
+    ),
+]
+
+USERS = Connection(
+    "who may ask what",
+    "Closed",
+    post("admin", 1, "add_user", done(1), user="ana", privileges=["write"]),
+    post("admin", 2, "add_user", done(2), user="ben", privileges=["subscribers", "ingest"]),
+    city(number=3),
+    # what was kept is answered again, and uses no number
+    city(number=3, wanted=done(3, word="repeat")),
+    post("admin", 3, "add_desk", denied("NumberUsed", kept=3), desk="town"),
+    post("admin", 9, "add_desk", denied("OutOfTurn", expected=4), desk="town"),
+    post("admin", 0, "add_desk", denied("OutOfTurn", expected=4), desk="town"),
+    # 403 by the denials that are about the caller
+    post("zoe", 1, "add_desk", denied("UnknownUser"), desk="town"),
+    post("zoe", 2, "add_desk", denied("OutOfTurn", expected=1), desk="town"),
+    post("ana", 1, "add_desk", denied("NoPrivilege", privilege="desks"), desk="town"),
+    post("ana", 1, "stop", denied("NoPrivilege", privilege="stop")),
+    post("ana", 1, "create", denied("NotMember", desk="city"), desk="city", story={}),
+    post("ana", 1, "create", unknown("desk"), desk="town", story={}),
+    post("admin", 4, "add_desk", denied("NameTaken"), desk="city"),
+    post("admin", 4, "add_stage", unknown("desk"), desk="town", stage="copy"),
+    post("admin", 4, "add_condition", denied("BadOperand"), condition="c", field="urgency", op="eq", values=["x"]),
+    # a question is for users, and for no one without a name
+    get("/queue", "ana", queue()),
+    get("/queue", "zoe", bare(403)),
+    get("/items/1", "zoe", bare(403)),
+    get("/queue", None, bare(400)),
+    get("/queue", "Ana", bare(400)),
+    get("/queue", "", bare(400)),
+    get("/queue", "a" * 33, bare(400)),
+    get("/queue", "ana", bare(400), headers=[("X-User", "ana")]),
+    get("/queue", "ana", bare(400), headers=[("x-user", "zoe")]),
+    get("/queue", None, queue(), headers=[("x-USER", " ana ")]),
+    # a feed is for its subscriber, and for users with the privilege; the caller is asked before the thing
+    get("/feeds/alpha/after/0", "ana", bare(403)),
+    get("/feeds/alpha/after/0", "ben", unknown("subscriber")),
+    get("/feeds/zoe/after/0", "zoe", unknown("subscriber")),
+    get("/feeds/alpha/frames/1", "zoe", bare(403)),
+    get("/feeds/zoe/frames/1", "zoe", unknown("subscriber")),
+    receipt("zoe", "zoe", 0, unknown("subscriber")),
+    receipt("alpha", "beta", 0, bare(403)),
+    receipt("alpha", "admin", 0, bare(403)),
+    ingest("wire", "ana", WIRE, bare(403)),
+    ingest("wire", "zoe", WIRE, bare(403)),
+    ingest("wire", "ben", WIRE, unknown("provider")),
+)
+
+TARGETS = Connection(
+    "targets that are odd",
+    "Closed",
+    get("/nothing", None, bare(404)),
+    # no route stands before no name
+    get("/nothing", "Ana", bare(404)),
+    get("/requests", "admin", bare(404)),
+    Ask("POST /queue", "admin", bare(404)),
+    Ask("DELETE /items/1", "admin", bare(404)),
+    Ask("PUT /requests", "admin", bare(404), "{}"),
+    Ask("OPTIONS *", "admin", bare(404)),
+    get("/queue?", "admin", bare(404)),
+    get("/queue/", "admin", bare(404)),
+    get("//queue", "admin", bare(404)),
+    get("/Queue", "admin", bare(404)),
+    get("/q%75eue", "admin", bare(404)),
+    get("http://n/queue", "admin", bare(404)),
+    get("/items/", "admin", bare(404)),
+    get("/items/1/", "admin", bare(404)),
+    get("/feeds//after/0", "admin", bare(404)),
+    get("/feeds/alpha/after", "admin", bare(404)),
+    get("/feeds/alpha/after/0/1", "admin", bare(404)),
+    get("/../queue", "admin", bare(404)),
+    # a number of the path
+    get("/items/01", "admin", bare(400)),
+    get("/items/-1", "admin", bare(400)),
+    get("/items/+1", "admin", bare(400)),
+    get("/items/%31", "admin", bare(400)),
+    get("/items/1?", "admin", bare(400)),
+    get("/items/{item}", "admin", bare(400)),
+    get("/items/4294967296", "admin", bare(400)),
+    get("/items/4294967295", "admin", unknown("item")),
+    get("/items/0", "admin", unknown("item")),
+    get("/items/9", "admin", unknown("item")),
+    get("/feeds/alpha/after/99999999999", "admin", bare(400)),
+    get("/feeds/alpha/frames/x", "admin", bare(400)),
+    # a name of the path
+    get("/feeds/Alpha/after/0", "admin", bare(400)),
+    get("/feeds/a.b/frames/1", "admin", bare(400)),
+    get("/feeds/" + "a" * 33 + "/after/0", "admin", bare(400)),
+    get("/feeds/" + "a" * 32 + "/after/0", "admin", unknown("subscriber")),
+    Ask("POST /ingest/a+b/ninjs", "admin", bare(400), WIRE),
+    Ask("POST /feeds/al%70ha/receipts", "alpha", bare(400), {"n": 0}),
+)
+
+BODIES = Connection(
+    "bodies",
+    "Closed",
+    Ask("POST /requests", "admin", bad("line")),
+    Ask("POST /requests", "admin", bad("line"), "[]"),
+    Ask("POST /requests", "admin", bad("line"), '{"number":1,'),
+    Ask("POST /requests", "admin", bad("line"), '{"ask":"queue"}'),
+    Ask("POST /requests", "admin", bad("line"), '{"receipt":{"subscriber":"alpha","n":0}}'),
+    Ask("POST /requests", "admin", bad("number"), '{"do":"add_desk","desk":"city"}'),
+    Ask("POST /requests", "admin", bad("do"), '{"number":1,"do":"nope"}'),
+    Ask("POST /requests", "admin", bad("desk"), '{"number":1,"do":"add_desk"}'),
+    Ask("POST /requests", "admin", bad("desk"), '{"number":1,"do":"add_desk","desk":"City"}'),
+    Ask("POST /requests", "admin", bad("urgency"), '{"number":1,"do":"flash","story":{"urgency":12}}'),
+    # no name stands before a bad body, and that before the caller's right
+    Ask("POST /requests", None, bare(400), "[]"),
+    Ask("POST /requests", "zoe", bad("line"), "[]"),
+    Ask("POST /feeds/alpha/receipts", "beta", bad("n"), '{"n":-1}'),
+    Ask("POST /feeds/alpha/receipts", "alpha", bad("n"), "{}"),
+    Ask("POST /feeds/alpha/receipts", "alpha", bad("n"), '{"n":4294967296}'),
+    Ask("POST /feeds/alpha/receipts", "alpha", bad("line"), "7"),
+    Ask("POST /ingest/wire/ninjs", "admin", fault("NoUri"), "{}"),
+    Ask("POST /ingest/wire/ninjs", "admin", fault("NotObject"), "[]"),
+    Ask("POST /ingest/wire/ninjs", "zoe", fault("NotJson"), "{"),
+    Ask("POST /ingest/wire/ninjs", "admin", fault("WrongType", property="uri"), '{"uri":7}'),
+    Ask("POST /ingest/wire/ninjs", "admin", fault("TooLong", property="uri"), {"uri": "u" * 257}),
+    # the caller is the one that the gateway names
+    Ask("POST /requests", "admin", done(1), '{"by":"zoe","number":1,"do":"add_desk","desk":"city"}'),
+    # a body may be sent with a question, and is not read
+    get("/queue", "admin", queue(), send="[]"),
+)
+
+STORY = Connection(
+    "a story goes out",
+    "Closed",
+    post("admin", 1, "add_subscriber", done(1), subscriber="alpha", format="ninjs", products=["all"]),
+    post("admin", 2, "add_subscriber", done(2), subscriber="beta", format="7901", products=["all"]),
+    post("admin", 3, "flash", done(3, 1, 1, 1002), story=FIRE),
+    get("/feeds/alpha/after/0", "alpha", feed("alpha", 1, (1, 1, 1, 1, "first", 1002))),
+    get("/feeds/alpha/after/0", "admin", feed("alpha", 1, (1, 1, 1, 1, "first", 1002))),
+    get("/feeds/alpha/after/1", "alpha", feed("alpha", 1)),
+    get("/feeds/alpha/after/4294967295", "alpha", feed("alpha", 1)),
+    get("/feeds/alpha/after/0", "beta", bare(403)),
+    get(
+        "/feeds/alpha/frames/1",
+        "alpha",
+        frame(
+            "alpha",
+            1,
+            '{"body_text":"Smoke.","headline":"Fire","language":"en","pubstatus":"usable","slugline":"fire","type":"text","urgency":3,'
+            f'"uri":"{URI}","version":"1","versioncreated":"1970-01-01T00:16:42Z"}}',
+        ),
+    ),
+    get(
+        "/feeds/beta/frames/1",
+        "admin",
+        frame("beta", 1, "\1NWS0001 3 n 1 FIRST\r\nfire\r\n\2Fire\r\nSmoke.\r\n\x031970-01-01T00:16:42Z\4"),
+    ),
+    get("/feeds/alpha/frames/0", "alpha", bare(404)),
+    get("/feeds/alpha/frames/2", "alpha", bare(404)),
+    receipt("alpha", "alpha", 2, denied("ReceiptAhead", length=1)),
+    receipt("alpha", "alpha", 1, done(4)),
+    receipt("alpha", "alpha", 1, done()),
+    receipt("alpha", "alpha", 0, done()),
+    get("/queue", "admin", queue(("alpha", 1, 1, 0, "success"), ("beta", 1, 0, 0, "pending"))),
+    get("/items/1", "admin", item("published", FIRE, 1)),
+    post("admin", 4, "resume", denied("NotPaused"), subscriber="alpha"),
+    post("admin", 4, "edit", denied("WrongState", state="published"), item=1, session="s", story={}),
+    post("admin", 4, "correct", denied("NotLocked"), item=1, session="s", story={}),
+    post("admin", 4, "lock", done(5, 1), item=1, session="s"),
+    get("/items/1", "admin", item("published", FIRE, 1, session="s", user="admin")),
+    post("admin", 5, "correct", denied("LockedBy", session="s", user="admin"), item=1, session="t", story={}),
+    post("admin", 5, "correct", done(6, 1, 2, 1024), item=1, session="s", story={"headline": "Fire out"}),
+    get("/feeds/alpha/after/1", "alpha", feed("alpha", 2, (2, 2, 1, 2, "correct", 1024))),
+    post("admin", 6, "deschedule", denied("AlreadyReleased", release=1002), item=1),
+)
+
+TICKS = Connection(
+    "a release comes while questions are asked",
+    "Closed",
+    city(),
+    post("admin", 2, "set_member", done(2), desk="city", user="admin", member=True),
+    post("admin", 3, "add_subscriber", done(3), subscriber="alpha", format="ninjs", products=["all"]),
+    post("admin", 4, "create", done(4, 1), desk="city", story={"headline": "Budget"}),
+    post("admin", 5, "lock", done(5, 1), item=1, session="s"),
+    post("admin", 6, "publish", denied("BothTimes"), item=1, session="s", schedule=2000, embargo=2000),
+    post("admin", 6, "publish", denied("PastMoment", moment=1006), item=1, session="s", schedule=1005),
+    post("admin", 6, "publish", done(6, 1, 1, 1014), item=1, session="s", embargo=1014),
+    get("/items/1", "admin", item("scheduled", {"headline": "Budget"}, 1, desk="city", stage="working")),
+    get("/feeds/alpha/after/0", "alpha", feed("alpha", 0)),
+    get("/queue", "admin", queue(("alpha", 0, 0, 0, "waiting"))),
+    # neither who has no right nor what is bad lets time pass
+    get("/queue", "zoe", bare(403)),
+    get("/feeds/alpha/after/x", "alpha", bare(400)),
+    get("/nothing", "admin", bare(404)),
+    # at 1014: the question lets the release in, as entry 7
+    get("/feeds/alpha/after/0", "alpha", feed("alpha", 1, (1, 1, 1, 1, "first", 1014))),
+    receipt("alpha", "alpha", 1, done(8)),
+    get("/queue", "admin", queue(("alpha", 1, 1, 0, "success"))),
+    get("/items/1", "admin", item("published", {"headline": "Budget"}, 1, desk="city", stage="working")),
+)
+
+INGESTS = Connection(
+    "stories come in",
+    "Closed",
+    post("admin", 1, "add_provider", done(1), provider="wire"),
+    ingest("wire", "admin", WIRE, done(2, 1)),
+    ingest("wire", "admin", WIRE, done(0, 1)),
+    ingest("wire", "admin", {**WIRE, "uri": "http://x.example/2"}, done(3, 2)),
+    ingest("other", "admin", WIRE, unknown("provider")),
+    get("/items/1", "admin", item("ingested", {"headline": "Fire", "body": "Smoke."}, 1)),
+    get("/items/3", "admin", unknown("item")),
+)
+
+
+def record(fields):
+    """The bytes in the log of a request of `admin` with so many bytes of fields: gate, length, moment, tag, caller, number, command."""
+    return 1 + 4 + 8 + 1 + 1 + len("admin") + 8 + 1 + fields
+
+
+# kind, urgency, slugline, headline, byline, language, category, body, html flag
+EMPTY_STORY = 1 + 1 + 6 * 4 + 1
+DESK, MEMBER, CREATE = record(1 + 4), record(1 + 4 + 1 + 5 + 1), record(1 + 4 + EMPTY_STORY)
+LOCK, PUBLISH = record(4 + 2), record(4 + 2 + 1 + 1 + 8 + 2)
+SCHEDULED = DESK + MEMBER + CREATE + LOCK + PUBLISH
+ADVANCE = 1 + 4 + 8 + 1
+
+# five requests, of which the last lets an item wait until 1005
+WAITING = (
+    city(),
+    post("admin", 2, "set_member", done(2), desk="city", user="admin", member=True),
+    post("admin", 3, "create", done(3, 1), desk="city", story={}),
+    post("admin", 4, "lock", done(4, 1), item=1, session="s"),
+    post("admin", 5, "publish", done(5, 1, 1, 1005), item=1, session="s", embargo=1005),
+)
+
+FULL = [
+    Connection("the last record that has room", "Closed", city(), city(number=2, wanted=denied("NameTaken")), used=LIMIT - DESK),
+    Connection(
+        "a record that passes the limit by one byte",
+        "Closed",
+        city(wanted=bare(508)),
+        city(wanted=bare(508)),
+        # what keeps nothing is answered
+        post("zoe", 1, "add_desk", denied("UnknownUser"), desk="city"),
+        post("admin", 2, "add_desk", denied("OutOfTurn", expected=1), desk="city"),
+        get("/queue", "admin", queue()),
+        get("/items/1", "admin", unknown("item")),
+        used=LIMIT - DESK + 1,
+    ),
+    Connection(
+        "a question behind a tick that has no room",
+        "Closed",
+        *WAITING,
+        get("/queue", "admin", bare(508)),
+        get("/items/9", "admin", bare(508)),
+        get("/feeds/alpha/after/0", "admin", bare(508)),
+        # the rows up to the caller's right are decided before the tick
+        get("/queue", "zoe", bare(403)),
+        get("/queue", None, bare(400)),
+        get("/nothing", "admin", bare(404)),
+        post("admin", 6, "lock", bare(508), item=1, session="s"),
+        post("admin", 6, "lock", unknown("item"), item=2, session="s"),
+        used=LIMIT - SCHEDULED - ADVANCE + 1,
+    ),
+    Connection(
+        "a question behind the last tick that has room",
+        "Closed",
+        *WAITING,
+        get("/queue", "admin", queue()),
+        post("admin", 6, "stop", bare(508)),
+        get("/items/1", "admin", item("published", {}, 1, desk="city", stage="working")),
+        used=LIMIT - SCHEDULED - ADVANCE,
+    ),
+]
+
+FAILS = [
+    Connection("the log fails at a request", "Closed", city(wanted=bare(503)), city(), city(wanted=done(1, word="repeat")), failing=1),
+    Connection(
+        "the log fails at a tick",
+        "Closed",
+        *WAITING,
+        get("/items/9", "admin", bare(503)),
+        get("/items/9", "admin", unknown("item")),
+        post("admin", 6, "lock", done(7, 1), item=1, session="s"),
+        failing=6,
+    ),
+    Connection(
+        "the log fails at a stop, which is no stop then",
+        "Stopped { place: 1 }",
+        post("admin", 1, "stop", bare(503)),
+        post("admin", 1, "stop", done(1)),
+        failing=1,
+    ),
+]
+
+
+def lines(count, more=""):
+    """A question with so many header lines, and these behind them."""
+    return "GET /queue HTTP/1.1\r\nX-User: admin\r\n" + "".join(f"a{n}: b\r\n" for n in range(count - 1)) + more + "\r\n"
+
+
+def head_of(length):
+    """A question whose head has so many bytes."""
+    start = "GET /queue HTTP/1.1\r\nX-User: admin\r\na: "
+    return start + "b" * (length - len(start) - 4) + "\r\n\r\n"
+
+
+BODY = '{"number":1,"do":"add_desk","desk":"city"}'
+
+
+def sized(*values, body=BODY):
+    return "POST /requests HTTP/1.1\r\nX-User: admin\r\n" + "".join(f"Content-Length: {value}\r\n" for value in values) + "\r\n" + body
+
+
+NOTHING = "GET /nothing HTTP/1.1\r\n\r\n"
+
+ENDINGS = [
+    # no request begins what is left
+    Connection("no byte", "Closed", Raw("")),
+    Connection("a head that the end cuts off", "HeadFault", Raw("GET /queue HTTP/1.1\r\n", bare(400))),
+    Connection("a body that the end cuts off", "HeadFault", Raw(sized("43"), bare(400))),
+    Connection("bytes that are no head", "HeadFault", Raw(NOTHING + "\0" + NOTHING, bare(404), bare(400))),
+    Connection("a version that is none", "HeadFault", Raw("GET /queue HTTP/2.0\r\n\r\n", bare(400))),
+    Connection("a length with a sign", "HeadFault", Raw(sized("+42"), bare(400))),
+    Connection("a length without a digit", "HeadFault", Raw(sized(""), bare(400))),
+    Connection("a length of eleven digits", "HeadFault", Raw(sized("00000000042"), bare(400))),
+    Connection("two lengths", "HeadFault", Raw(sized("1", "2"), bare(400))),
+    Connection("two lengths of other digits", "HeadFault", Raw(sized("42", "042"), bare(400))),
+    Connection("a length twice", "Closed", Raw(sized("42", "42"), done(1))),
+    Connection("a length with zeros before it", "Closed", Raw(sized("0000000042"), done(1))),
+    Connection("a coding beside a length that is none", "Chunked", Raw("POST /requests HTTP/1.1\r\nTransfer-Encoding: chunked\r\nContent-Length: x\r\n\r\n", bare(501))),
+    Connection("another coding", "Chunked", Raw(NOTHING + "POST /requests HTTP/1.1\r\ntransfer-encoding: gzip\r\n\r\n" + NOTHING, bare(404), bare(501))),
+    Connection("a coding in a head of 65 lines", "Chunked", Raw(lines(64, "Transfer-Encoding: chunked\r\n"), bare(501))),
+    Connection("a head of 64 lines", "Closed", Raw(lines(64), queue())),
+    Connection("a head of 65 lines", "TooLarge", Raw(lines(65), bare(413))),
+    Connection("a head of 65 lines that the end cuts off", "HeadFault", Raw(lines(65)[:-2], bare(400))),
+    Connection("a head of 16384 bytes", "Closed", Raw(head_of(16384), queue())),
+    Connection("a head of 16385 bytes", "TooLarge", Raw(head_of(16385), bare(413))),
+    Connection("a body of one byte too many", "TooLarge", Raw(NOTHING + sized("4194305", body=""), bare(404), bare(413))),
+    # a request that closes
+    Connection("a line that closes", "Closed", Raw("GET /nothing HTTP/1.1\r\nConnection: Close\r\n\r\n" + NOTHING, bare(404))),
+    Connection("an old version closes", "Closed", Raw("GET /nothing HTTP/1.0\r\n\r\n" + NOTHING, bare(404))),
+    Connection("one of two lines closes", "Closed", Raw("GET /nothing HTTP/1.1\r\nConnection: keep-alive\r\nconnection: close\r\n\r\n" + NOTHING, bare(404))),
+    Connection("close is not the whole value", "Closed", Raw("GET /nothing HTTP/1.1\r\nConnection: keep-alive, close\r\n\r\n" + NOTHING, bare(404), bare(404))),
+    # how many are answered
+    Connection("64 requests and one more", "Limit", Raw(NOTHING * 65, *[bare(404)] * 64)),
+    Connection("64 requests", "Limit", Raw(NOTHING * 64, *[bare(404)] * 64)),
+    Connection("63 requests", "Closed", Raw(NOTHING * 63, *[bare(404)] * 63)),
+    Connection("64 requests, of which the last closes", "Closed", Raw(NOTHING * 63 + "GET /nothing HTTP/1.0\r\n\r\n", *[bare(404)] * 64)),
+]
+
+TABLE = [*WORKED, USERS, TARGETS, BODIES, STORY, TICKS, INGESTS, *FULL, *FAILS, *ENDINGS]
+
+
+# ---- the files of the gate
+
+
+def write_files():
+    for connection in TABLE:
+        assert len(connection.asks) <= 64, connection.title
+    with open(os.path.join(GATE, "stdin"), "wb") as file:
+        for connection in TABLE:
+            sent = connection.bytes()
+            file.write(f"{connection.used} {connection.failing} {len(sent)} {connection.title}\n".encode() + sent + b"\n")
+    with open(os.path.join(GATE, "stdout"), "wb") as file:
+        for connection in TABLE:
+            file.write(f"= {connection.title}\n".encode() + connection.answer() + f"\n- {connection.ended}\n".encode())
+
+
+# ---- a real socket
+
+
+class Listener:
+    """Listens, and hands each connection to a server of its own, as its standard input and output."""
+
+    def __init__(self):
+        self.socket = socket.create_server(("127.0.0.1", 0))
+        self.port = self.socket.getsockname()[1]
+        self.words = []
+        self.accepted = 0
+        threading.Thread(target=self.serve, daemon=True).start()
+
+    def serve(self):
+        while True:
+            taken, _ = self.socket.accept()
+            self.accepted += 1
+            with taken:
+                subprocess.Popen([SERVER, "one", *self.words], stdin=taken, stdout=taken)
+
+
+def by_curl(listener, connection):
+    words = ["curl"]
+    for number, ask in enumerate(ask for ask in connection.asks if ask.status is not None):
+        words += (["--next"] if number else []) + ask.curl() + [f"http://127.0.0.1:{listener.port}/"]
+    return subprocess.run(words, stdout=subprocess.PIPE, timeout=60).stdout
+
+
+def by_bytes(listener, connection):
+    with socket.create_connection(("127.0.0.1", listener.port), timeout=20) as peer:
+        # in pieces, with what is to come still unsent
+        sent = connection.bytes()
+        for at in range(0, len(sent), 1000):
+            peer.sendall(sent[at : at + 1000])
+        peer.shutdown(socket.SHUT_WR)
+        got = b""
+        while piece := peer.recv(65536):
+            got += piece
+    return got
+
+
+def send_table():
+    if not os.path.exists(SERVER):
+        sys.exit("crates/plain_server is not built: `rt run` in its folder does it")
+    listener = Listener()
+    counts = {"curl": 0, "bytes": 0}
+    wrong = 0
+    for connection in TABLE:
+        listener.words = [str(connection.used), str(connection.failing)]
+        listener.accepted = 0
+        way = "bytes" if connection.is_raw() else "curl"
+        got = by_bytes(listener, connection) if way == "bytes" else by_curl(listener, connection)
+        answers = connection.answer().count(b"HTTP/1.1 ")
+        counts[way] += answers
+        if got != connection.answer() or listener.accepted != 1:
+            wrong += 1
+            print(f"{connection.title}, by {way}, {listener.accepted} connections: {got!r} in place of {connection.answer()!r}")
+    print(f"{counts['curl']} requests were sent by curl and {counts['bytes']} as bytes, on {len(TABLE)} connections; {wrong} of these were answered otherwise")
+    sys.exit(wrong != 0)
+
+
+if __name__ == "__main__":
+    write_files() if sys.argv[1:] == ["--write"] else send_table()

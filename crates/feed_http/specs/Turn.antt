@@ -1,0 +1,125 @@
+-- What a request's turn makes of a room, and the turn as events of the world.
+use Rattle.std.specs.Prelude.{◌≡◌, ◌⊎◌, ◌==◌, ℕ, Bool, true, List, [], Ok}
+use Rattle.news_types.specs.declared.entry.Entry.{Entry}
+use Rattle.news_types.specs.declared.query.Query.{Query}
+use Rattle.news_types.specs.History.{moment_at, last_stop}
+use Rattle.news_types.specs.Books.{Book, onto}
+use Rattle.news_types.specs.Calls.{Call, Requested, Ingested, Receipted, Ticked, Asked, Answer, Full, Fault}
+use Rattle.news_io.specs.Keeper.{KeeperMeaning}
+use Rattle.feed_frames.specs.Writer.{the_writer}
+use Rattle.news_room.specs.Beside.{Beside}
+use Rattle.news_room.specs.Stands.{Stands, LIMIT, numbers}
+use Rattle.news_room.specs.Steps.{Whole, Given, Refused, Failed, ToldStep}
+use Rattle.news_room.specs.Events.{IsEvent}
+use Rattle.news_room.specs.declared.room.Room.{Room}
+use Rattle.http_wire.specs.declared.request.HttpRequest.{HttpRequest}
+use Rattle.desk_routes.specs.declared.ask.HttpAsk.{HttpAsk}
+use Rattle.desk_routes.specs.declared.ask.HttpAsk.TheVariants as ask
+use Rattle.desk_routes.specs.declared.ask.Asking.{Asking}
+use Rattle.desk_routes.specs.declared.response.Response.{Response}
+use Rattle.desk_routes.specs.declared.response.Notice.TheVariants as notice
+use Rattle.desk_routes.specs.Responses.{notice_response}
+use Rattle.feed_http.specs.declared.answers.HttpAnswer.{HttpAnswer}
+use Rattle.feed_http.specs.Outcome.{HttpOutcome, response_to, ask_outcome, asking_outcome, asks, http, stop_behind}
+
+-- ---- how much of an outcome came
+
+-- this response, or there was no memory for its body
+abbrev pub IsToldAs : Response → Response → Type 0
+IsToldAs wanted response = (response ≡ wanted) ⊎ (response ≡ notice_response notice.NoMemory)
+
+-- the response to an answer of the room
+abbrev pub IsTold : Answer → Response → Type 0
+IsTold Full response = response ≡ response_to Full
+IsTold Fault response = response ≡ response_to Fault
+IsTold answer response = IsToldAs (response_to answer) response
+
+-- All entries of the outcome are kept, and its response is given; or its next entry would pass the limit; or the keeper failed at it; or
+-- there was no memory, and none or all of them are kept.
+pub data Comes (n : Beside) (o : HttpOutcome) (more : List Entry) (response : Response) : Type 0 where
+  whole : response ≡ o.response → Given n LIMIT o.adds more → Comes n o more response
+  full : (size count : ℕ) → response ≡ notice_response notice.Full → Refused n LIMIT o.adds more size count → Comes n o more response
+  failed : response ≡ notice_response notice.Fault → Failed n LIMIT o.adds more → Comes n o more response
+  starved : response ≡ notice_response notice.NoMemory → Whole n [] more ⊎ Given n LIMIT o.adds more → Comes n o more response
+
+-- the response that tells that the keeper failed
+abbrev pub tells_failure : Response → Bool
+tells_failure response = response.status == 503
+
+-- a request that is read as this
+pub record IsRead (request : HttpRequest) (a : Asking) : Type 0 where
+  pub is : asks request ≡ Ok a
+
+module _ {K : Type 0} (keeper : KeeperMeaning K) where
+  -- ---- the events of a turn
+
+  -- a call, and the response to its answer
+  pub record Calls (old new : Room K) (b : Book) (more : List Entry) (call : Call) (now : ℕ) (response : Response) : Type 0 where
+    pub answer : Answer
+    pub event : IsEvent keeper old new b more call now answer
+    pub told : IsTold answer response
+
+  -- the question behind a tick that was answered so: where the tick was refused nothing is asked
+  abbrev pub AsksBehind : Room K → Book → Query → ℕ → Answer → Response → Type 0
+  AsksBehind room b question now Full response = response ≡ response_to Full
+  AsksBehind room b question now Fault response = response ≡ response_to Fault
+  AsksBehind room b question now answer response = Calls room room b [] (Asked question) now response
+
+  -- a tick, and then a question
+  pub record TicksAndAsks (old new : Room K) (b : Book) (more : List Entry) (question : Query) (now : ℕ) (response : Response) : Type 0 where
+    pub answer : Answer
+    pub event : IsEvent keeper old new b more Ticked now answer
+    pub asks : AsksBehind new (onto more b) question now answer response
+
+  -- what is asked of the room
+  abbrev pub AskEvents : Room K → Room K → Book → List Entry → HttpAsk → ℕ → Response → Type 0
+  AskEvents old new b more (ask.Request caller number command) now response = Calls old new b more (Requested caller number command) now response
+  AskEvents old new b more (ask.Query question) now response = TicksAndAsks old new b more question now response
+  AskEvents old new b more (ask.Receipt subscriber n) now response = Calls old new b more (Receipted subscriber n) now response
+  AskEvents old new b more (ask.Ingest provider incoming) now response = Calls old new b more (Ingested provider incoming) now response
+
+  -- nothing was asked of the room
+  pub record IsStill (old new : Room K) (more : List Entry) : Type 0 where
+    pub room : new ≡ old
+    pub none : more ≡ []
+
+  -- what a caller asks, or nothing was asked of the room
+  abbrev pub AskingEvents : Room K → Room K → Book → List Entry → Asking → ℕ → Response → Type 0
+  AskingEvents old new b more a now response = IsStill old new more ⊎ AskEvents old new b more a.ask now response
+
+  -- the events of what the request asks, or nothing was asked
+  abbrev pub RequestEvents : Room K → Room K → Book → List Entry → HttpRequest → ℕ → Response → Type 0
+  RequestEvents old new b more request now response = IsStill old new more ⊎ ((a : Asking) × IsRead request a × AskEvents old new b more a.ask now response)
+
+  -- ---- turns
+
+  -- what a turn makes of a room that stood for the book: it stands for the book with more, an outcome came, and the turn was these
+  -- events. Where the keeper tells its list, so is what a crash may leave
+  pub record HttpTurn (old new : Room K) (b : Book) (more : List Entry) (o : HttpOutcome) (response : Response) (Events : Type 0) : Type 0 where
+    pub stands : Stands keeper new (onto more b)
+    pub came : Comes (numbers keeper old new) o more response
+    pub events : Events
+    pub told : b.told ≡ true → ToldStep keeper old new b o.adds more (tells_failure response)
+
+  -- the turn of what is asked
+  abbrev pub AskTurn : Room K → Room K → Book → List Entry → HttpAsk → ℕ → Response → Type 0
+  AskTurn old new b more a now response =
+      HttpTurn old new b more (ask_outcome (the_writer b.store) b.list a (moment_at b.list now)) response (AskEvents old new b more a now response)
+
+  abbrev pub AskingTurn : Room K → Room K → Book → List Entry → Asking → ℕ → Response → Type 0
+  AskingTurn old new b more a now response =
+      HttpTurn old new b more (asking_outcome (the_writer b.store) b.list a (moment_at b.list now)) response (AskingEvents old new b more a now response)
+
+  -- the turn of a request at a reading of the clock
+  abbrev pub RequestTurn : Room K → Room K → Book → List Entry → HttpRequest → ℕ → Response → Type 0
+  RequestTurn old new b more request now response =
+      HttpTurn old new b more (http (the_writer b.store) b.list request now) response (RequestEvents old new b more request now response)
+
+  -- what a request is answered in its turn, and the stop that the turn kept
+  pub record IsAnswer (old new : Room K) (b : Book) (more : List Entry) (request : HttpRequest) (now : ℕ) (answer : HttpAnswer) : Type 0 where
+    pub turn : RequestTurn old new b more request now answer.response
+    pub stop : answer.stop ≡ stop_behind (last_stop b.list) (last_stop ((onto more b).list))
+
+  -- the same for each book for which the room stood
+  abbrev pub IsAnswered : Room K → ℕ → HttpRequest → HttpAnswer → Room K → Type 0
+  IsAnswered old now request answer new = (more : List Entry) × ((b : Book) → Stands keeper old b → IsAnswer old new b more request now answer)

@@ -1,0 +1,56 @@
+//! The responses to what a room answers.
+ghost use Rattle.std.specs.Prelude.{◌≡◌, IfOk};
+ghost use Rattle.news_room.specs.Said.{said, said_kept, said_told};
+ghost use Rattle.desk_routes.specs.declared.response.Response.{Response};
+ghost use Rattle.feed_http.specs.Turn.{IsTold, IsToldAs};
+
+use desk_routes::{Notice, Response, notify, respond_answer, respond_denial, respond_reply};
+use news_room::{Handled, Kept};
+use news_types::{Answer, Memory};
+use std::alloc::Global;
+
+/// The response, or where there was no memory for it the one that tells so.
+pub(crate) fn or_no_memory(alloc: Global, found: Result<Response, Memory>) -> Response
+    ensures { (wanted : Response) → IfOk found (λ response. response ≡ wanted) → IsToldAs wanted result }
+{
+    match found {
+        Ok(response) => response,
+        Err(_) => notify(alloc, Notice::NoMemory),
+    }
+}
+
+/// The response to what a request or an ingest is answered.
+pub(crate) fn tell_answered(alloc: Global, answered: Handled) -> Response
+    ensures { IsTold (said answered) result }
+{
+    match answered {
+        Handled::Done(reply) => or_no_memory(alloc, respond_reply(alloc, &reply, false)),
+        Handled::Repeat(reply) => or_no_memory(alloc, respond_reply(alloc, &reply, true)),
+        Handled::Denied(denial) => or_no_memory(alloc, respond_denial(alloc, &denial)),
+        Handled::Fault => notify(alloc, Notice::Fault),
+        Handled::Full { .. } => notify(alloc, Notice::Full),
+        Handled::Memory => notify(alloc, Notice::NoMemory),
+    }
+}
+
+/// The response to what a receipt is answered.
+pub(crate) fn tell_kept(alloc: Global, kept: Kept) -> Response
+    ensures { IsTold (said_kept kept) result }
+{
+    match kept {
+        Kept::Done(reply) => or_no_memory(alloc, respond_reply(alloc, &reply, false)),
+        Kept::Denied(denial) => or_no_memory(alloc, respond_denial(alloc, &denial)),
+        Kept::Fault => notify(alloc, Notice::Fault),
+        Kept::Full { .. } => notify(alloc, Notice::Full),
+    }
+}
+
+/// The response to what a question is answered.
+pub(crate) fn tell_answer(alloc: Global, told: Result<Answer, Memory>) -> Response
+    ensures { IsTold (said_told told) result }
+{
+    match told {
+        Ok(answer) => or_no_memory(alloc, respond_answer(alloc, answer)),
+        Err(_) => notify(alloc, Notice::NoMemory),
+    }
+}

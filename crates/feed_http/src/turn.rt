@@ -1,0 +1,205 @@
+//! The work of one turn.
+ghost use Rattle.std.specs.Prelude.{◌≡◌, ℕ, IfOk, List};
+ghost use Rattle.news_types.specs.declared.entry.Entry.{Entry};
+ghost use Rattle.news_types.specs.Books.{Book};
+ghost use Rattle.news_types.specs.Fits.{FitsIncoming};
+ghost use Rattle.news_types.specs.FitsCommands.{FitsCommand};
+ghost use Rattle.news_room.specs.Stands.{Stands, SomeBook};
+ghost use Rattle.desk_routes.specs.declared.ask.HttpAsk.TheVariants as asked;
+ghost use Rattle.desk_routes.specs.Asking.{FitsAsk};
+ghost use Rattle.desk_routes.specs.Rights.{right_of, may_ask};
+ghost use Rattle.feed_http.specs.Outcome.{stop_behind};
+ghost use Rattle.feed_http.specs.Turn.{AskTurn, AskingTurn, RequestTurn, IsAnswered};
+
+use crate::answers::HttpAnswer;
+use crate::telling::{or_no_memory, tell_answer, tell_answered, tell_kept};
+use desk_routes::{
+    Asking, Gate, HttpAsk, Notice, Response, Routes, allows, gate_of, notify, refuse, right_of,
+};
+use http_wire::HttpRequest;
+use news_io::Keeper;
+use news_room::{Room, Ticked};
+use news_types::{Command, Incoming, Memory, Name, Query};
+use std::alloc::Global;
+
+/// Releases what waits, and then answers a question.
+#[tactic(none)]
+fn answer_question<K: Keeper>(
+    alloc: Global,
+    room: &mut Room<K>,
+    now: u64,
+    question: Query,
+) -> Response
+    requires { SomeBook K.keeper room.old }
+    ensures { (more : List Entry) × ((b : Book) → Stands K.keeper room.old b → AskTurn K.keeper room.old room.new b more (asked.Query question) now result) }
+{
+    match room.tick(now) {
+        Ticked::Kept { .. } | Ticked::Still => tell_answer(alloc, room.ask(&question)),
+        Ticked::Fault => notify(alloc, Notice::Fault),
+        Ticked::Full { .. } => notify(alloc, Notice::Full),
+    }
+}
+
+/// Takes a user's request to the room.
+#[tactic(none)]
+fn answer_command<K: Keeper>(
+    alloc: Global,
+    room: &mut Room<K>,
+    now: u64,
+    caller: Name,
+    number: u64,
+    command: Command,
+) -> Response
+    requires stands { SomeBook K.keeper room.old }
+    requires fits { FitsCommand command }
+    ensures { (more : List Entry) × ((b : Book) → Stands K.keeper room.old b → AskTurn K.keeper room.old room.new b more (asked.Request caller number command) now result) }
+{
+    tell_answered(alloc, room.request(now, caller, number, command))
+}
+
+/// Takes a subscriber's receipt to the room.
+#[tactic(none)]
+fn answer_receipt<K: Keeper>(
+    alloc: Global,
+    room: &mut Room<K>,
+    now: u64,
+    subscriber: Name,
+    n: u32,
+) -> Response
+    requires { SomeBook K.keeper room.old }
+    ensures { (more : List Entry) × ((b : Book) → Stands K.keeper room.old b → AskTurn K.keeper room.old room.new b more (asked.Receipt subscriber n) now result) }
+{
+    tell_kept(alloc, room.receipt(now, subscriber, n))
+}
+
+/// Takes a provider's item to the room.
+#[tactic(none)]
+fn answer_ingest<K: Keeper>(
+    alloc: Global,
+    room: &mut Room<K>,
+    now: u64,
+    provider: Name,
+    incoming: Incoming,
+) -> Response
+    requires stands { SomeBook K.keeper room.old }
+    requires fits { FitsIncoming incoming }
+    ensures { (more : List Entry) × ((b : Book) → Stands K.keeper room.old b → AskTurn K.keeper room.old room.new b more (asked.Ingest provider incoming) now result) }
+{
+    tell_answered(alloc, room.ingest(now, provider, incoming))
+}
+
+/// Takes to the room what is asked, whose caller has the right to ask it.
+#[tactic(none)]
+fn answer_ask<K: Keeper>(alloc: Global, room: &mut Room<K>, now: u64, ask: HttpAsk) -> Response
+    requires stands { SomeBook K.keeper room.old }
+    requires fits { FitsAsk ask }
+    ensures { (more : List Entry) × ((b : Book) → Stands K.keeper room.old b → AskTurn K.keeper room.old room.new b more ask now result) }
+{
+    match ask {
+        HttpAsk::Request {
+            caller,
+            number,
+            command,
+        } => answer_command(alloc, room, now, caller, number, command),
+        HttpAsk::Query(question) => answer_question(alloc, room, now, question),
+        HttpAsk::Receipt { subscriber, n } => answer_receipt(alloc, room, now, subscriber, n),
+        HttpAsk::Ingest { provider, incoming } => {
+            answer_ingest(alloc, room, now, provider, incoming)
+        }
+    }
+}
+
+/// Whether the caller has the right to ask this, by the list as it is.
+#[tactic(none)]
+fn may_ask<K: Keeper>(room: &Room<K>, asking: &Asking) -> Result<bool, Memory>
+    requires { SomeBook K.keeper room.now }
+    ensures { (b : Book) → Stands K.keeper room.now b → IfOk result (λ allowed. allowed ≡ may_ask b.list asking.now.caller (right_of asking.now.ask)) }
+{
+    match gate_of(asking.caller, right_of(&asking.ask)) {
+        Gate::Known(allowed) => Ok(allowed),
+        Gate::Asks(question) => Ok(allows(&room.ask(&question)?)),
+    }
+}
+
+/// Takes to the room what a caller asks who has the right.
+#[tactic(none)]
+fn answer_allowed<K: Keeper>(
+    alloc: Global,
+    room: &mut Room<K>,
+    now: u64,
+    asking: Asking,
+) -> Response
+    requires stands { SomeBook K.keeper room.old }
+    requires fits { FitsAsk asking.ask }
+    ensures { (more : List Entry) × ((b : Book) → Stands K.keeper room.old b → AskTurn K.keeper room.old room.new b more asking.ask now result) }
+{
+    answer_ask(alloc, room, now, asking.ask)
+}
+
+/// Answers what is asked, where its caller has the right.
+#[tactic(none)]
+fn answer_asking<K: Keeper>(alloc: Global, room: &mut Room<K>, now: u64, asking: Asking) -> Response
+    requires stands { SomeBook K.keeper room.old }
+    requires fits { FitsAsk asking.ask }
+    ensures { (more : List Entry) × ((b : Book) → Stands K.keeper room.old b → AskingTurn K.keeper room.old room.new b more asking now result) }
+{
+    match may_ask(room, &asking) {
+        Ok(true) => answer_allowed(alloc, room, now, asking),
+        Ok(false) => {
+            drop(asking);
+            notify(alloc, Notice::Forbidden)
+        }
+        Err(_) => {
+            drop(asking);
+            notify(alloc, Notice::NoMemory)
+        }
+    }
+}
+
+/// The response to a request.
+#[tactic(none)]
+fn answer_request<K: Keeper>(
+    routes: &Routes,
+    room: &mut Room<K>,
+    now: u64,
+    request: &HttpRequest,
+) -> Response
+    requires { SomeBook K.keeper room.old }
+    ensures { (more : List Entry) × ((b : Book) → Stands K.keeper room.old b → RequestTurn K.keeper room.old room.new b more request.now now result) }
+{
+    let alloc = routes.alloc();
+    match routes.read_ask(request) {
+        Ok(asking) => answer_asking(alloc, room, now, asking),
+        Err(refusal) => or_no_memory(alloc, refuse(alloc, refusal)),
+    }
+}
+
+/// The place of the last stop, where there is one behind those before.
+fn stop_behind(before: u64, now: u64) -> Option<u64>
+    ensures { result ≡ stop_behind before now }
+{
+    if before < now { Some(now) } else { None }
+}
+
+/// Answers a request in one turn of a room, at a reading of the clock, in seconds.
+///
+/// What the request is refused for up to its caller's right is decided by the list as it is, and keeps nothing. A question
+/// comes behind a tick; where that is refused, so is the question. Where there is no memory the status is 507, without a
+/// body; then none or all of the entries are kept that the request has.
+#[tactic(none)]
+pub fn answer_one<K: Keeper>(
+    routes: &Routes,
+    room: &mut Room<K>,
+    now: u64,
+    request: &HttpRequest,
+) -> HttpAnswer
+    requires { SomeBook K.keeper room.old }
+    ensures { IsAnswered K.keeper room.old now request.now result room.new }
+{
+    let before = room.last_stop();
+    let response = answer_request(routes, room, now, request);
+    HttpAnswer {
+        response,
+        stop: stop_behind(before, room.last_stop()),
+    }
+}
