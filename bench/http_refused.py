@@ -70,6 +70,8 @@ NO_MEMORY, FAULT = plain(response(507)), plain(response(503))
 
 def is_right(got, wanted):
     """Whether at most one request was starved, and nothing else is otherwise."""
+    if got[len(wanted):] == [NO_MEMORY]:
+        return got[:-1] == wanted
     starved = False
     for at, answer in enumerate(got):
         first, again = wanted[at - at % 2], wanted[at - at % 2 + 1]
