@@ -1,4 +1,4 @@
 pub mod Lines
+pub mod Moving
 pub mod Receipts
 pub mod Replying
-pub mod Stories

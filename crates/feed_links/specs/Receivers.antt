@@ -1,8 +1,9 @@
 -- The receivers behind a link, and what becomes of them by what passes over it.
-use Rattle.std.specs.Prelude.{◌≡◌, ℕ, ◌+◌, ◌==◌, Bool, true, false, List, [], ◌∷◌, ◌++◌, length, take, slice_get, slice_set, Option, Some, None, if◌then◌else◌}
+use Rattle.std.specs.Prelude.{◌≡◌, ℕ, ◌+◌, ◌==◌, Bool, true, false, List, [], length, take, slice_get, slice_set, Option, Some, None, if◌then◌else◌}
 use Rattle.std.specs.List.{position, position_or_len}
 use Rattle.news_types.specs.Names.{Bytes, same}
 use Rattle.news_types.specs.Frames.{Frame}
+use Rattle.news_io.specs.Link.{Passed, Sent, Said, Nothing}
 use Rattle.feed_receiver.specs.declared.receiver.Taken.{Taken}
 use Rattle.feed_receiver.specs.declared.receiver.Taken.TheVariants.{BadFrame, Fault, Full, Memory}
 use Rattle.feed_receiver.specs.Spelling.{receipt_bytes}
@@ -58,28 +59,8 @@ abbrev pub reply_from : Bytes → Option (Bytes × Bytes) → Bytes
 reply_from s None = []
 reply_from s (Some reply) = if same reply.0 s then first_line reply.1 else []
 
--- what passes over a link: a frame that is sent to a subscriber, or a reply that it gives
-pub data Passed : Type 0 where
-  Sent : Bytes → Bytes → Passed
-  Said : Bytes → Bytes → Passed
-
+-- what becomes of the receivers, and of the reply that waits, by what passes in a call
 abbrev pub Passes : List Bytes → Passed → Behind → Behind → Type 0
 Passes names (Sent s frame) old new = Comes names s frame old new
 Passes names (Said s bytes) old new = (bytes ≡ reply_from s old.waits) × (new ≡ record { held = old.held; waits = None })
-
--- all that passed, newest first, makes this of what the receivers held at first
-abbrev pub Makes : List Bytes → List Received → List Passed → Behind → Type 0
-Makes names first [] now = now ≡ record { held = first; waits = None }
-Makes names first (p ∷ passed) now = (before : Behind) × Makes names first passed before × Passes names p before now
-
--- the frames among what passed, in order, each with its subscriber
-abbrev pub frames_among : List Passed → List (Bytes × Bytes)
-frames_among [] = []
-frames_among (Sent s frame ∷ passed) = frames_among passed ++ (s, frame) ∷ []
-frames_among (Said s bytes ∷ passed) = frames_among passed
-
--- the replies among what passed
-abbrev pub replies_among : List Passed → List (Bytes × Bytes)
-replies_among [] = []
-replies_among (Sent s frame ∷ passed) = replies_among passed
-replies_among (Said s bytes ∷ passed) = replies_among passed ++ (s, bytes) ∷ []
+Passes names Nothing old new = new ≡ old

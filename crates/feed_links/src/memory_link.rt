@@ -60,7 +60,7 @@ fn put_reply(waits: &Option<(Name, Line)>, subscriber: &Name, into: &mut [u8; 12
 
 impl<K: Keeper> MemoryLink<K> {
     ghost use Rattle.feed_receiver.specs.Holds.{Received, Holds};
-    ghost use Rattle.feed_links.specs.Links.{memory_link, receiver_of};
+    ghost use Rattle.feed_links.specs.Links.{AllHold, memory_link, receiver_of};
 
     /// A link to these receivers, one for each of the names, in order. Its calls with these numbers are to fail: sends
     /// and receipts, numbered from 1. A name without a receiver cannot be reached.
@@ -72,7 +72,8 @@ impl<K: Keeper> MemoryLink<K> {
     ) -> MemoryLink<K>
         ensures serves { (memory_link K.keeper).serves result ≡ names }
         ensures receivers { result.receivers ≡ receivers }
-        ensures tells { (held : List Received) → AllZip (Holds K.keeper) receivers.items held → (memory_link K.keeper).tells result }
+        ensures tells { (held : List Received) → AllZip (Holds K.keeper) receivers.items held → AllHold K.keeper result held }
+        ensures waits { result.reply ≡ None }
         ensures sent { (memory_link K.keeper).sent result ≡ [] }
         ensures said { (memory_link K.keeper).said result ≡ [] }
         ensures faults { (memory_link K.keeper).faults result ≡ 0 }

@@ -6,7 +6,7 @@ use Rattle.news_io.specs.Clock.{ClockMeaning, shown}
 use Rattle.news_io.specs.Disk.{DiskMeaning}
 use Rattle.news_io.specs.Keeper.{KeeperMeaning}
 use Rattle.news_io.specs.Kept.{kept_from, only_kept}
-use Rattle.news_io.specs.Link.{LinkMeaning}
+use Rattle.news_io.specs.Link.{Nothing, LinkMeaning}
 use Rattle.news_io.specs.Replay.{may_hold, left_from, only_last, counts_last, Tells}
 use Rattle.news_io.specs.Sink.{SinkMeaning}
 use Rattle.news_io.specs.Source.{SourceMeaning}
@@ -86,6 +86,7 @@ unreachable_link = record {
   tells = λ l. Unit {0};
   sent = λ l. [];
   said = λ l. [];
+  step = λ old new p. p ≡ Nothing;
 }
 
 -- a file of the system: it tells nothing

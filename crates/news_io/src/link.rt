@@ -2,7 +2,7 @@
 ghost use Rattle.std.specs.Prelude.{◌≡◌, ◌≤◌, ◌++◌, ◌∷◌, [], length, take, IsTrue, IfOk, OnOk, OnErr};
 ghost use Rattle.news_types.specs.Names.{is_in};
 ghost use Rattle.news_io.specs.Faults.{Counts};
-ghost use Rattle.news_io.specs.Link.{IsReply, LinkMeaning};
+ghost use Rattle.news_io.specs.Link.{IsReply, Sent, Said, Nothing, LinkMeaning};
 
 use crate::Failed;
 use news_types::Name;
@@ -23,6 +23,8 @@ pub trait Link {
         ensures sent { link.tells self.old → OnOk result (link.sent self.new ≡ link.sent self.old ++ (subscriber.now, frame.now) ∷ []) }
         ensures lost { link.tells self.old → OnErr result (link.sent self.new ≡ link.sent self.old) }
         ensures said { link.tells self.old → link.said self.new ≡ link.said self.old }
+        ensures step { link.tells self.old → OnOk result (link.step self.old self.new (Sent subscriber.now frame.now)) }
+        ensures still { link.tells self.old → OnErr result (link.step self.old self.new Nothing) }
         ensures told { link.tells self.old → link.tells self.new }
         ensures count { Counts (link.faults self.old) (link.faults self.new) result };
 
@@ -35,6 +37,8 @@ pub trait Link {
         ensures said { link.tells self.old → IfOk result (λ n. link.said self.new ≡ link.said self.old ++ (subscriber.now, take n into.new) ∷ []) }
         ensures silent { link.tells self.old → OnErr result (link.said self.new ≡ link.said self.old) }
         ensures sent { link.tells self.old → link.sent self.new ≡ link.sent self.old }
+        ensures step { link.tells self.old → IfOk result (λ n. link.step self.old self.new (Said subscriber.now (take n into.new))) }
+        ensures still { link.tells self.old → OnErr result (link.step self.old self.new Nothing) }
         ensures told { link.tells self.old → link.tells self.new }
         ensures count { Counts (link.faults self.old) (link.faults self.new) result };
 }

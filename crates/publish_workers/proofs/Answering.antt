@@ -53,6 +53,14 @@ not_denied h s n m why there denied within =
     let done = done_by h s n m (nat_lt (acked h s) n) refl (fits_by h s n there within) in
     denied_done why done.0 (sym denied ∙ done.1)
 
+-- what was denied adds nothing
+pub denied_none : (h : History) (s : Bytes) (n m : ℕ) (why : Denial) → (receipt_at h s n m).answer ≡ Denied why → (receipt_at h s n m).more ≡ None
+denied_none h s n m why denied = by (receipt_denial h s n) refl
+  where
+    by : (d : Option Denial) → receipt_denial h s n ≡ d → (receipt_at h s n m).more ≡ None
+    by (Some other) is = ap (λ (o : Outcome Answered). o.more) (receipt_refused h s n m other is)
+    by None is = let done = done_by h s n m (nat_lt (acked h s) n) refl is in absurd (denied_done why done.0 (sym denied ∙ done.1))
+
 module _ (x : Beside) (b : Book) (at : ℕ) (s : Bytes) (k n : ℕ) (reply : Bytes) (more : List Entry) where
   nothing_follows : (why : Denial) → receipt_denial b.list s n ≡ Some why → entries (receipt_at b.list s n (moment_at b.list at)).more ≡ entries None
   nothing_follows why is = ap (λ (o : Outcome Answered). entries o.more) (receipt_refused b.list s n (moment_at b.list at) why is)

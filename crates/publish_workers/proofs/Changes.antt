@@ -98,6 +98,10 @@ pub since_stays : (h g f : History) (s : Bytes) → Since h g s → Stays g f s 
 since_stays h g f s (inl zero') then' = inl (then'.tries_is ∙ zero')
 since_stays h g f s (inr one) then' = inr (stays_then h g f s one then')
 
+pub since_then : (h g f : History) (s : Bytes) → Since h g s → Since g f s → Since h f s
+since_then h g f s one (inl zero') = inl zero'
+since_then h g f s one (inr two) = since_stays h g f s one two
+
 next_some : (o : Option Dispatch) (n last m : ℕ) → is_by m (ready_from o n last) ≡ true → (p : Dispatch) × (o ≡ Some p)
 next_some None n last m by = absurd (true≢false (sym by))
 next_some (Some p) n last m by = (p, refl)

@@ -36,7 +36,7 @@ use Rattle.publish_workers.proofs.Ready.{none_ready_at}
 use Rattle.publish_workers.proofs.Changes.{feed_begins, stays, tick_stays, Since, since_stays, all_delivered, ticked_again}
 use Rattle.publish_workers.proofs.Delivering.{since_on, held_on}
 
-or_parts : (a b : Bool) → (a || b) ≡ false → (a ≡ false) × (b ≡ false)
+pub or_parts : (a b : Bool) → (a || b) ≡ false → (a ≡ false) × (b ≡ false)
 or_parts false b is = (refl, is)
 or_parts true b is = absurd (true≢false is)
 
@@ -102,9 +102,23 @@ lost_of s StoreFault is = refl
 lost_of s (Full size count) is = refl
 lost_of s Memory is = refl
 
-lost_none : (s : Bytes) (ts : List Turn) → lost_in ts ≡ false → lost_to s ts ≡ false
+pub lost_none : (s : Bytes) (ts : List Turn) → lost_in ts ≡ false → lost_to s ts ≡ false
 lost_none s [] is = refl
 lost_none s (t ∷ ts) is = let parts = or_parts (lost_in ts) (is_link_fault (word t)) is in or_none (lost_to s ts) (is_lost_to s (word t)) (lost_none s ts parts.0) (lost_of s (word t) parts.1)
+
+-- so of what was refused
+refused_of : (s : Bytes) (w : Worked) → is_no_receipt w ≡ false → is_refused_by s w ≡ false
+refused_of s (NoReceipt r k reply) is = absurd (true≢false is)
+refused_of s (Delivered r k n) is = refl
+refused_of s (LinkFault r k) is = refl
+refused_of s (Idle next) is = refl
+refused_of s StoreFault is = refl
+refused_of s (Full size count) is = refl
+refused_of s Memory is = refl
+
+pub refused_of_none : (s : Bytes) (ts : List Turn) → refused_in ts ≡ false → refused_by s ts ≡ false
+refused_of_none s [] is = refl
+refused_of_none s (t ∷ ts) is = let parts = or_parts (refused_in ts) (is_no_receipt (word t)) is in or_none (refused_by s ts) (is_refused_by s (word t)) (refused_of_none s ts parts.0) (refused_of s (word t) parts.1)
 
 -- an end with none ready
 pub idle_end : (w : Worked) (lost refused lost' refused' : Bool) → ends.Drained.Idle lost' refused' ≡ end_of w lost refused → (next : Option ℕ) × (w ≡ Idle next) × (lost' ≡ lost) × (refused' ≡ refused)
@@ -166,7 +180,7 @@ module _ {K : Type 0} (keeper : KeeperMeaning K) where
     moment_is : moment_at (onto more b).list t.reading ≡ moment_at (onto happens.before b).list t.reading
     moment_is = ap (λ (h : History). moment_at h t.reading) list_is ∙ ticked_again (onto happens.before b).list t.reading
 
-    rests_there : NoneReady (onto more b).list names (moment_at (onto more b).list t.reading)
+    pub rests_there : NoneReady (onto more b).list names (moment_at (onto more b).list t.reading)
     rests_there =
         let h : History = (onto happens.before b).list in
         let m : ℕ = moment_at h t.reading in
@@ -188,12 +202,17 @@ module _ {K : Type 0} (keeper : KeeperMeaning K) where
       let now = since_on keeper happens.0 happens.1 left (onto happens.2 b) names t.reading happens.3 happens.4 t.claimed t.exchange turn.claim.step turn.exchange reported.0 s losts.1 refusals.1 b.list was in
       subst (λ (l : List Entry). Since b.list (onto l b).list s) (sym happens.7) (subst (λ (d : Book). Since b.list d.list s) (onto_more happens.2 (happens.3 ++ happens.4) b) now)
 
-  pub feeds_are_delivered : FeedsAreDelivered keeper
-  feeds_are_delivered old new b names t ts more next happens reported idle s there lost refused may =
+  pub drain_since : (old new : Room K) (b : Book) (names : List Bytes) (t : Turn) (ts : List Turn) (more : List Entry) (next : Option ℕ) → DrainHappens keeper old new b names t ts more → AllReported ts → word t ≡ Idle next
+      → (s : Bytes) → lost_to s ts ≡ false → refused_by s ts ≡ false → Since b.list (onto more b).list s
+  drain_since old new b names t ts more next happens reported idle s lost refused =
       let h : History = (onto happens.before b).list in
       let m : ℕ = moment_at h t.reading in
       let was = since_turns old happens.left b names ts happens.before happens.turns reported s lost refused in
-      let now = subst (λ (g : History). Since b.list g s) (sym (list_is old new b names t ts more next happens idle)) (since_stays b.list h (ticked h m) s was (tick_stays h m s)) in
+      subst (λ (g : History). Since b.list g s) (sym (list_is old new b names t ts more next happens idle)) (since_stays b.list h (ticked h m) s was (tick_stays h m s))
+
+  pub feeds_are_delivered : FeedsAreDelivered keeper
+  feeds_are_delivered old new b names t ts more next happens reported idle s there lost refused may =
+      let now = drain_since old new b names t ts more next happens reported idle s lost refused in
       let done = rests_there old new b names t ts more next happens idle in
       all_delivered b.list (onto more b).list names s (moment_at (onto more b).list t.reading) now (feed_begins more b.list s happens.stands.kept.legal) (done.none s there) (done.done s there) may
 

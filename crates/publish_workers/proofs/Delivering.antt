@@ -46,7 +46,7 @@ list_is : (first later : List Entry) (b : Book) → (onto (first ++ later) b).li
 list_is first later b = sym (behind_more first later b.list)
 
 -- a receipt adds its entry, or nothing
-any_receipt : (h : History) (s : Bytes) (n m : ℕ) → ((receipt_at h s n m).more ≡ None) ⊎ ((receipt_at h s n m).more ≡ Some (entry_of m (Receipt s n)))
+pub any_receipt : (h : History) (s : Bytes) (n m : ℕ) → ((receipt_at h s n m).more ≡ None) ⊎ ((receipt_at h s n m).more ≡ Some (entry_of m (Receipt s n)))
 any_receipt h s n m = by (receipt_denial h s n) (nat_lt (acked h s) n) refl refl
   where
     by : (d : Option Denial) (raises : Bool) → receipt_denial h s n ≡ d → nat_lt (acked h s) n ≡ raises → ((receipt_at h s n m).more ≡ None) ⊎ ((receipt_at h s n m).more ≡ Some (entry_of m (Receipt s n)))
@@ -82,12 +82,12 @@ module _ (x : Beside) (b : Book) (now : ℕ) (names : List Bytes) (first : List 
   claim_acked s = ap (λ (g : History). acked g s) (left_is x b now names first r k frame front step) ∙ (tick_stays b.list (moment_at b.list now) s).acked_is
 
   -- the entry is the first that is not acknowledged
-  job_next : k ≡ acked b.list r + 1
+  pub job_next : k ≡ acked b.list r + 1
   job_next = (chosen_ready (ticked b.list (moment_at b.list now)) names (moment_at b.list now) r k step.0).1 ∙ ap (λ (n : ℕ). n + 1) (tick_stays b.list (moment_at b.list now) r).acked_is
 
   module _ {K : Type 0} (keeper : KeeperMeaning K) (between : Room K) (stands : Stands keeper between (onto first b)) where
     -- the feed has it
-    job_within : k ≤ length (feed (onto first b).list r)
+    pub job_within : k ≤ length (feed (onto first b).list r)
     job_within =
         let m : ℕ = moment_at b.list now in
         let g : History = ticked b.list m in
@@ -98,7 +98,7 @@ module _ (x : Beside) (b : Book) (now : ℕ) (names : List Bytes) (first : List 
         omega (arith, longer, there, same')
 
     -- the number of entries of the feed stands in a receipt of the subscriber
-    job_form : (n : ℕ) → n ≤ length (feed (onto first b).list r) → IsReceipt r n
+    pub job_form : (n : ℕ) → n ≤ length (feed (onto first b).list r) → IsReceipt r n
     job_form n most =
         let g : History = (onto first b).list in
         let formed = subst (λ (l : History). Each IsEntry l) (left_is x b now names first r k frame front step) stands.kept.formed in
@@ -114,10 +114,10 @@ module _ {K : Type 0} (keeper : KeeperMeaning K) (left between new : Room K) (b 
   quiet_list none = list_is first later b ∙ ap (λ (l : List Entry). followed_by l (onto first b).list) none
 
   module _ (r : Bytes) (k : ℕ) (frame : Bytes) (front : ℕ) (step : ClaimStep (numbers keeper left between) b reading names first (Claimed.Job r k frame front)) where
-    quiet_stays : (s : Bytes) → same r s ≡ false → later ≡ [] → Stays b.list (onto (first ++ later) b).list s
+    pub quiet_stays : (s : Bytes) → same r s ≡ false → later ≡ [] → Stays b.list (onto (first ++ later) b).list s
     quiet_stays s other none = subst (λ (g : History). Stays b.list g s) (sym (quiet_list none)) (claim_stays (numbers keeper left between) b reading names first r k frame front step s other)
 
-    receipt_other : (s : Bytes) (n at : ℕ) → same r s ≡ false → later ≡ entries (receipt_at (onto first b).list r n (moment_at (onto first b).list at)).more → Stays b.list (onto (first ++ later) b).list s
+    pub receipt_other : (s : Bytes) (n at : ℕ) → same r s ≡ false → later ≡ entries (receipt_at (onto first b).list r n (moment_at (onto first b).list at)).more → Stays b.list (onto (first ++ later) b).list s
     receipt_other s n at other is =
         let g : History = (onto first b).list in
         let m : ℕ = moment_at g at in
@@ -208,7 +208,7 @@ module _ {K : Type 0} (keeper : KeeperMeaning K) (left between new : Room K) (b 
           record { least = omega (arith, acked_is, is, least, few.0); most = omega (arith, feed_is, few.1) }
 
       -- the link failed
-      failed : later ≡ [] → (now ≡ old) ⊎ Takes s k frame old now → Held s now
+      pub failed : later ≡ [] → (now ≡ old) ⊎ Takes s k frame old now → Held s now
       failed none (inl still) =
           let same' : length now ≡ length old = ap length still in
           let longer = feed_longer first b.list s claimed.kept.legal in
@@ -221,7 +221,7 @@ module _ {K : Type 0} (keeper : KeeperMeaning K) (left between new : Room K) (b 
           let all = took takes in
           record { receipt = record { line = is; form = job_form (numbers keeper left between) b reading names first s k frame front step keeper between claimed (length now) all.2; reaches = all.0 }; within = all.2 }
 
-      delivered : (reply : Bytes) (n at : ℕ) → Takes s k frame old now → reply ≡ receipt_bytes s (length now) → Acknowledges (onto first b).list s k n reply
+      pub delivered : (reply : Bytes) (n at : ℕ) → Takes s k frame old now → reply ≡ receipt_bytes s (length now) → Acknowledges (onto first b).list s k n reply
           → later ≡ entries (receipt_at (onto first b).list s n (moment_at (onto first b).list at)).more → Held s now
       delivered reply n at takes is told follows =
           let g : History = (onto first b).list in

@@ -10,7 +10,7 @@ use Rattle.news_types.specs.History.{moment_at}
 use Rattle.news_types.specs.Outcome.{entry_of}
 use Rattle.news_io.specs.Faults.{Rose}
 use Rattle.news_io.specs.Keeper.{KeeperMeaning}
-use Rattle.news_io.specs.Link.{LinkMeaning}
+use Rattle.news_io.specs.Link.{Passed, LinkMeaning}
 use Rattle.news_io.specs.Sink.{SinkMeaning, AreFirst}
 use Rattle.news_io.proofs.Runs.{elapses_same}
 use Rattle.news_room.specs.Beside.{Beside}
@@ -33,6 +33,7 @@ use Rattle.publish_workers.specs.Turns.{Exchange, Unsent, Unread, Replied, Recei
 use Rattle.publish_workers.specs.Links.{Passes, CountsFaults}
 use Rattle.publish_workers.specs.Steps.{later_entries, turn_entries, Exchanges, TurnHappens}
 use Rattle.publish_workers.specs.Drains.{report_of, IsReported, end_of, IsEnd, is_store_end, is_output_end, CountsLink, IsLineFault, Prints, TurnsHappen, DrainHappens}
+use Rattle.publish_workers.proofs.Exchanging.{goes_then}
 
 -- ---- words
 
@@ -298,11 +299,13 @@ module _ {K : Type 0} (keeper : KeeperMeaning K) where
 -- ---- link and output
 
 module _ {L : Type 0} (link : LinkMeaning L) where
-  pub passes_more : (old mid new : L) (frames more replies others : List (Bytes × Bytes)) → Passes link old mid frames replies → Passes link mid new more others → Passes link old new (frames ++ more) (replies ++ others)
-  passes_more old mid new frames more replies others one two = record {
+  pub passes_more : (old mid new : L) (frames more replies others : List (Bytes × Bytes)) (passed then : List Passed) → Passes link old mid frames replies passed → Passes link mid new more others then
+      → Passes link old new (frames ++ more) (replies ++ others) (passed ++ then)
+  passes_more old mid new frames more replies others passed then one two = record {
     tells = two.tells;
     sent = two.sent ∙ ap (λ (l : List (Bytes × Bytes)). l ++ more) one.sent ∙ append_assoc (link.sent old) frames more;
     said = two.said ∙ ap (λ (l : List (Bytes × Bytes)). l ++ others) one.said ∙ append_assoc (link.said old) replies others;
+    goes = goes_then link old mid new passed then one.goes two.goes;
   }
 
 module _ {O : Type 0} (sink : SinkMeaning O) where

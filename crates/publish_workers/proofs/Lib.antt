@@ -7,5 +7,11 @@ mod Draining
 mod Ready
 mod Changes
 mod Delivering
-mod Complete
+pub mod Complete
 mod LinkDraining
+mod Headings
+pub mod Passing
+pub mod Additions
+mod Pacing
+pub mod Receiving
+mod AllDelivering

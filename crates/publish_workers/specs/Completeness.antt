@@ -1,8 +1,11 @@
 -- What a drain has done at whose end none of the feeds is ready.
 use Rattle.std.specs.Prelude.{◌≡◌, ◌⊎◌, ◌≤◌, ◌||◌, ℕ, Bool, true, false, List, [], ◌∷◌, length, Option}
+use Rattle.news_types.specs.declared.entry.Act.{Act}
+use Rattle.news_types.specs.declared.entry.Act.TheVariants.{Advance, Attempt, Receipt}
 use Rattle.news_types.specs.declared.entry.Entry.{Entry}
 use Rattle.news_types.specs.declared.query.Ready.TheVariants.{Later}
 use Rattle.news_types.specs.Names.{Bytes, same, is_in}
+use Rattle.news_types.specs.Members.{Each}
 use Rattle.news_types.specs.History.{History, moment_at}
 use Rattle.news_types.specs.Books.{Book, onto}
 use Rattle.news_types.specs.Calls.{IsKept}
@@ -105,7 +108,18 @@ IsFree ends.Drained.OutputFault = ⊥
 IsFree (ends.Drained.Full size count) = ⊥
 IsFree ends.Drained.Memory = ⊥
 
+-- a tick, an attempt or a receipt
+abbrev pub Delivers : Act → Type 0
+Delivers Advance = Unit {0}
+Delivers (Attempt s k) = Unit {0}
+Delivers (Receipt s n) = Unit {0}
+Delivers _ = ⊥
+
 module _ {K : Type 0} (keeper : KeeperMeaning K) where
+  -- a drain adds no other entries
+  abbrev pub DrainsOnlyDeliver : Type 0
+  DrainsOnlyDeliver = (old new : Room K) (b : Book) (names : List Bytes) (t : Turn) (ts : List Turn) (more : List Entry) → DrainHappens keeper old new b names t ts more → Each (λ (e : Entry). Delivers e.act) more
+
   -- behind a drain whose last turn found none ready, none is
   abbrev pub IdlesAreDone : Type 0
   IdlesAreDone = (old new : Room K) (b : Book) (names : List Bytes) (t : Turn) (ts : List Turn) (more : List Entry) (next : Option ℕ) → DrainHappens keeper old new b names t ts more → word t ≡ Idle next

@@ -4,6 +4,7 @@ use Rattle.news_types.specs.declared.entry.Entry.{Entry}
 use Rattle.news_types.specs.Names.{Bytes}
 use Rattle.news_types.specs.Books.{Book, onto}
 use Rattle.news_io.specs.Keeper.{KeeperMeaning}
+use Rattle.news_io.specs.Link.{Passed}
 use Rattle.news_io.specs.Sink.{SinkMeaning, AreFirst}
 use Rattle.news_room.specs.Stands.{Stands}
 use Rattle.news_room.specs.Steps.{ToldStep}
@@ -17,7 +18,7 @@ use Rattle.publish_workers.specs.declared.drain.Drained as ends
 use Rattle.publish_workers.specs.declared.drain.Drained.{Drained}
 use Rattle.publish_workers.specs.declared.drain.Reported.{Reported}
 use Rattle.publish_workers.specs.Links.{CountsFaults}
-use Rattle.publish_workers.specs.Turns.{Turn, word, frames_of, replies_of, readings, is_link_fault, is_no_receipt, is_store_fault}
+use Rattle.publish_workers.specs.Turns.{Turn, word, frames_of, replies_of, passed_of, readings, is_link_fault, is_no_receipt, is_store_fault}
 use Rattle.publish_workers.specs.Steps.{TurnHappens, turn_entries}
 
 -- ---- what is reported
@@ -70,6 +71,10 @@ all_frames (t ∷ ts) = all_frames ts ++ frames_of t.claimed t.exchange
 abbrev pub all_replies : List Turn → List (Bytes × Bytes)
 all_replies [] = []
 all_replies (t ∷ ts) = all_replies ts ++ replies_of t.claimed t.exchange
+
+abbrev pub all_passed : List Turn → List Passed
+all_passed [] = []
+all_passed (t ∷ ts) = all_passed ts ++ passed_of t.claimed t.exchange
 
 abbrev pub all_readings : List Turn → List ℕ
 all_readings [] = []

@@ -7,3 +7,5 @@ pub mod Drains
 pub mod Completeness
 pub mod Statuses
 pub mod LinkDrains
+pub mod InMemory
+pub mod AllLinks

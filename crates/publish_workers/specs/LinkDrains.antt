@@ -16,7 +16,7 @@ use Rattle.publish_workers.specs.declared.drain.Drained.{Drained}
 use Rattle.publish_workers.specs.Links.{Passes, Reads, CountsFaults}
 use Rattle.publish_workers.specs.Turns.{Turn, word, is_store_fault}
 use Rattle.publish_workers.specs.Steps.{turn_entries}
-use Rattle.publish_workers.specs.Drains.{AllReported, lost_in, refused_in, IsEnd, CountsLink, is_store_end, is_output_end, all_frames, all_replies, all_readings, lines_of, last_line, Prints, DrainHappens}
+use Rattle.publish_workers.specs.Drains.{AllReported, lost_in, refused_in, IsEnd, CountsLink, is_store_end, is_output_end, all_frames, all_replies, all_passed, all_readings, lines_of, last_line, Prints, DrainHappens}
 use Rattle.publish_workers.specs.Statuses.{drain_status}
 use Rattle.run_status.specs.Output.{Told}
 use Rattle.run_status.specs.Status.{number_of, line_of as status_line}
@@ -74,7 +74,7 @@ drains_last (d ∷ ds) = last_line d.last
 pub record DrainsLink {L : Type 0} (link : LinkMeaning L) (old new : L) (d : LinkDrain) : Type 0 where
   pub reported : AllReported d.turns
   pub end : IsEnd (lost_in d.turns) (refused_in d.turns) (word d.last) d.end
-  pub passes : link.tells old → Passes link old new (all_frames (d.last ∷ d.turns)) (all_replies (d.last ∷ d.turns))
+  pub passes : link.tells old → Passes link old new (all_frames (d.last ∷ d.turns)) (all_replies (d.last ∷ d.turns)) (all_passed (d.last ∷ d.turns))
   pub faults : CountsLink d.end (link.faults old) (link.faults new)
   pub serves : link.serves new ≡ link.serves old
 

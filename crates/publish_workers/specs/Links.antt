@@ -3,13 +3,14 @@ use Rattle.std.specs.Prelude.{◌≡◌, ℕ, Bool, true, false, List, ◌++◌}
 use Rattle.news_types.specs.Names.{Bytes}
 use Rattle.news_io.specs.Clock.{ClockMeaning, Gave}
 use Rattle.news_io.specs.Faults.{Rose}
-use Rattle.news_io.specs.Link.{LinkMeaning}
+use Rattle.news_io.specs.Link.{Passed, LinkMeaning, Goes}
 
--- a link that tells was sent these frames, and gave these replies, each with its subscriber
-pub record Passes {L : Type 0} (link : LinkMeaning L) (old new : L) (frames replies : List (Bytes × Bytes)) : Type 0 where
+-- A link that tells was sent these frames, and gave these replies, each with its subscriber; and these passed in its calls, in order.
+pub record Passes {L : Type 0} (link : LinkMeaning L) (old new : L) (frames replies : List (Bytes × Bytes)) (passed : List Passed) : Type 0 where
   pub tells : link.tells new
   pub sent : link.sent new ≡ link.sent old ++ frames
   pub said : link.said new ≡ link.said old ++ replies
+  pub goes : Goes link old new passed
 
 -- a clock that tells gave these readings
 pub record Reads {C : Type 0} (clock : ClockMeaning C) (old new : C) (readings : List ℕ) : Type 0 where

@@ -1,6 +1,7 @@
 -- One turn of a worker: what it claimed, what became of the frame, and what the turn is told as.
 use Rattle.std.specs.Prelude.{◌≡◌, ℕ, Bool, true, false, List, [], ◌∷◌, if◌then◌else◌}
 use Rattle.news_types.specs.Names.{Bytes}
+use Rattle.news_io.specs.Link.{Passed, Sent, Said, Nothing}
 use Rattle.news_room.specs.declared.claim.Claimed.{Claimed}
 use Rattle.news_room.specs.declared.answers.Kept.{Kept}
 use Rattle.publish_workers.specs.declared.worked.Worked.{Worked}
@@ -101,6 +102,22 @@ replies_of (Claimed.Idle next) exchange = []
 replies_of Claimed.Fault exchange = []
 replies_of (Claimed.Full size count) exchange = []
 replies_of Claimed.Memory exchange = []
+
+-- what passed in the calls of the exchange, in order
+
+abbrev pub passed_with : Bytes → Bytes → Exchange → List Passed
+passed_with s frame Unsent = Nothing ∷ []
+passed_with s frame Unread = Sent s frame ∷ Nothing ∷ []
+passed_with s frame (Replied reply) = Sent s frame ∷ Said s reply ∷ []
+passed_with s frame (Receipted reply n at kept) = Sent s frame ∷ Said s reply ∷ []
+
+-- without a frame there is no call
+abbrev pub passed_of : Claimed → Exchange → List Passed
+passed_of (Claimed.Job s k frame front) exchange = passed_with s frame exchange
+passed_of (Claimed.Idle next) exchange = []
+passed_of Claimed.Fault exchange = []
+passed_of (Claimed.Full size count) exchange = []
+passed_of Claimed.Memory exchange = []
 
 -- ---- the readings of the clock, in order
 

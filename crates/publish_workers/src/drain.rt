@@ -5,7 +5,7 @@ ghost use Rattle.news_types.specs.Books.{Book};
 ghost use Rattle.news_room.specs.Stands.{Stands, SomeBook};
 ghost use Rattle.publish_workers.specs.Turns.{Turn, word};
 ghost use Rattle.publish_workers.specs.Links.{Passes, Reads, CountsFaults};
-ghost use Rattle.publish_workers.specs.Drains.{report_of as report_of_word, line_of, lost_in, refused_in, end_of, IsEnd, is_store_end, is_output_end, CountsLink, IsLineFault, AllReported, all_frames, all_replies, all_readings, lines_of, last_line, Prints, Writes, DrainHappens};
+ghost use Rattle.publish_workers.specs.Drains.{report_of as report_of_word, line_of, lost_in, refused_in, end_of, IsEnd, is_store_end, is_output_end, CountsLink, IsLineFault, AllReported, all_frames, all_replies, all_passed, all_readings, lines_of, last_line, Prints, Writes, DrainHappens};
 
 use crate::turn::deliver_turn;
 use crate::worked::Worked;
@@ -122,7 +122,7 @@ pub fn drain_feeds<K: Keeper, C: Clock, L: Link, O: Sink>(
     ensures drain { (t : Turn) × (ts : List Turn) × AllReported ts × IsEnd (lost_in ts) (refused_in ts) (word t) result
         × ((more : List Entry) × ((b : Book) → Stands K.keeper room.old b
         → DrainHappens K.keeper room.old room.new b (L.link.serves link.old) t ts more))
-        × (L.link.tells link.old → Passes L.link link.old link.new (all_frames (t ∷ ts)) (all_replies (t ∷ ts)))
+        × (L.link.tells link.old → Passes L.link link.old link.new (all_frames (t ∷ ts)) (all_replies (t ∷ ts)) (all_passed (t ∷ ts)))
         × (C.clock.tells clock.old → Reads C.clock clock.old clock.new (all_readings (t ∷ ts)))
         × (O.sink.tells output.old → Prints O.sink output.old output.new (lines_of ts) (last_line t)) }
     ensures link_faults { CountsLink result (L.link.faults link.old) (L.link.faults link.new) }

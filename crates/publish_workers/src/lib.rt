@@ -13,7 +13,7 @@ mod turn;
 mod worked;
 
 pub use drain::{Drained, drain_feeds};
-pub use laws::completeness_law;
+pub use laws::{completeness_law, links_law, memory_law};
 pub use links::{drain_links, status_of};
 pub use turn::deliver_turn;
 pub use worked::Worked;

@@ -11,7 +11,7 @@ ghost use Rattle.news_room.specs.Events.{Happens};
 ghost use Rattle.news_room.specs.Said.{said_kept};
 ghost use Rattle.news_room.specs.Stands.{Stands, SomeBook, numbers};
 ghost use Rattle.news_room.specs.Steps.{ReceiptStep};
-ghost use Rattle.publish_workers.specs.Turns.{Exchange, Turn, word, word_of_frame, word_of_receipt, is_link_fault, is_store_fault, frames_of, frames_to, IsReplied, replies_of, replies_from, readings, receipt_readings};
+ghost use Rattle.publish_workers.specs.Turns.{Exchange, Turn, word, word_of_frame, word_of_receipt, is_link_fault, is_store_fault, frames_of, frames_to, IsReplied, replies_of, replies_from, passed_of, passed_with, readings, receipt_readings};
 ghost use Rattle.publish_workers.specs.Links.{Passes, Reads, CountsFaults};
 ghost use Rattle.publish_workers.specs.Steps.{ExchangeStep, IsReply, TurnHappens};
 
@@ -38,7 +38,7 @@ pub fn deliver_turn<K: Keeper, C: Clock, L: Link>(
     ensures turn { (t : Turn) × (result ≡ word t)
         × ((between : Room K) × (first later : List Entry) × ((b : Book) → Stands K.keeper room.old b
         → TurnHappens K.keeper room.old between room.new b (L.link.serves link.old) t first later))
-        × (L.link.tells link.old → Passes L.link link.old link.new (frames_of t.claimed t.exchange) (replies_of t.claimed t.exchange))
+        × (L.link.tells link.old → Passes L.link link.old link.new (frames_of t.claimed t.exchange) (replies_of t.claimed t.exchange) (passed_of t.claimed t.exchange))
         × (C.clock.tells clock.old → Reads C.clock clock.old clock.new (readings t)) }
     ensures link_faults { CountsFaults (is_link_fault result) (L.link.faults link.old) (L.link.faults link.new) }
     ensures store_faults { CountsFaults (is_store_fault result) (K.keeper.faults room.old.keeper) (K.keeper.faults room.new.keeper) }
@@ -74,7 +74,7 @@ fn exchange<K: Keeper, C: Clock, L: Link>(
     ensures went { (x : Exchange) × (result ≡ word_of_frame subscriber k x)
         × ((more : List Entry) × ((b : Book) → Stands K.keeper room.old b → ExchangeStep K.keeper room.old room.new b subscriber x more
         × (is_subscriber b.list subscriber ≡ true → IsReply b.list subscriber k x)))
-        × (L.link.tells link.old → Passes L.link link.old link.new (frames_to subscriber frame.now x) (replies_from subscriber x))
+        × (L.link.tells link.old → Passes L.link link.old link.new (frames_to subscriber frame.now x) (replies_from subscriber x) (passed_with subscriber frame.now x))
         × (C.clock.tells clock.old → Reads C.clock clock.old clock.new (receipt_readings x)) }
     ensures link_faults { CountsFaults (is_link_fault result) (L.link.faults link.old) (L.link.faults link.new) }
     ensures serves { L.link.serves link.new ≡ L.link.serves link.old }

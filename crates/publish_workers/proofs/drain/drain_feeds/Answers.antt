@@ -2,10 +2,10 @@ use Rattle.std.proofs.Common.{◌<◌, ◌≤◌, ◌++◌, ◌∷◌, ◌||◌,
 use Rattle.news_types.specs.Names.{Bytes}
 use Rattle.news_types.specs.Books.{onto}
 use Rattle.publish_workers.specs.declared.worked.Worked.{Worked}
-use Rattle.publish_workers.specs.Turns.{word, frames_of, replies_of, readings, is_link_fault, is_no_receipt, is_store_fault}
+use Rattle.publish_workers.specs.Turns.{word, frames_of, replies_of, passed_of, readings, is_link_fault, is_no_receipt, is_store_fault}
 use Rattle.publish_workers.specs.Links.{CountsFaults}
 use Rattle.publish_workers.specs.Steps.{TurnHappens}
-use Rattle.publish_workers.specs.Drains.{is_output_end, report_of, line_of, end_of, lost_in, refused_in, all_frames, all_replies, all_readings, lines_of, last_line}
+use Rattle.publish_workers.specs.Drains.{is_output_end, report_of, line_of, end_of, lost_in, refused_in, all_frames, all_replies, all_passed, all_readings, lines_of, last_line}
 use Rattle.publish_workers.proofs.Exchanging.{passes_none, reads_then}
 use Rattle.publish_workers.proofs.Draining.{is_reported, end_is, line_end, chain_none, chain_more, drain_ends, turn_goes, passes_more, prints_none, prints_some, lines_more, counts_then, counts_behind, link_ends, line_link, store_ends, calm_by, line_calm, output_calm}
 use Rattle.publish_workers.proofs.drain.drain_feeds.Goals as goal
@@ -48,7 +48,7 @@ returns-in_default-clause-drain g c =
             let chain = i.5.1 b is in
             drain_ends g.K.Keeper.keeper c.args.room.now c.loop-reported.room d.2.0 c.deliver_turn-worked.new.room b (g.L.Link.link.serves c.args.link.now) i.0 i.5.0 d.0 d.2.1 d.2.2 chain (subst (λ (ns : List Bytes). TurnHappens g.K.Keeper.keeper c.loop-reported.room d.2.0 c.deliver_turn-worked.new.room (onto i.5.0 b) ns d.0 d.2.1 d.2.2) i.4 (d.2.3 (onto i.5.0 b) chain.behind.stands)),
       ),
-      λ told. let so_far = i.6 told in passes_more g.L.Link.link c.args.link.now c.loop-reported.link c.deliver_turn-worked.new.link (all_frames i.0) (frames_of d.0.claimed d.0.exchange) (all_replies i.0) (replies_of d.0.claimed d.0.exchange) so_far (d.3 so_far.tells),
+      λ told. let so_far = i.6 told in passes_more g.L.Link.link c.args.link.now c.loop-reported.link c.deliver_turn-worked.new.link (all_frames i.0) (frames_of d.0.claimed d.0.exchange) (all_replies i.0) (replies_of d.0.claimed d.0.exchange) (all_passed i.0) (passed_of d.0.claimed d.0.exchange) so_far (d.3 so_far.tells),
       λ told. let so_far = i.7 told in reads_then g.C.Clock.clock c.args.clock.now c.loop-reported.clock c.deliver_turn-worked.new.clock (all_readings i.0) (readings d.0) so_far (d.4 so_far.tells),
       λ told. let so_far = i.8 told in prints_none g.O.Sink.sink c.args.output.now c.loop-reported.output (lines_of i.0) (last_line d.0) so_far.0 so_far.1,
     )
@@ -68,7 +68,7 @@ returns-in-Err-clause-drain g c =
             let chain = i.5.1 b is in
             drain_ends g.K.Keeper.keeper c.args.room.now c.loop-reported.room d.2.0 c.deliver_turn-worked.new.room b (g.L.Link.link.serves c.args.link.now) i.0 i.5.0 d.0 d.2.1 d.2.2 chain (subst (λ (ns : List Bytes). TurnHappens g.K.Keeper.keeper c.loop-reported.room d.2.0 c.deliver_turn-worked.new.room (onto i.5.0 b) ns d.0 d.2.1 d.2.2) i.4 (d.2.3 (onto i.5.0 b) chain.behind.stands)),
       ),
-      λ told. let so_far = i.6 told in passes_more g.L.Link.link c.args.link.now c.loop-reported.link c.deliver_turn-worked.new.link (all_frames i.0) (frames_of d.0.claimed d.0.exchange) (all_replies i.0) (replies_of d.0.claimed d.0.exchange) so_far (d.3 so_far.tells),
+      λ told. let so_far = i.6 told in passes_more g.L.Link.link c.args.link.now c.loop-reported.link c.deliver_turn-worked.new.link (all_frames i.0) (frames_of d.0.claimed d.0.exchange) (all_replies i.0) (replies_of d.0.claimed d.0.exchange) (all_passed i.0) (passed_of d.0.claimed d.0.exchange) so_far (d.3 so_far.tells),
       λ told. let so_far = i.7 told in reads_then g.C.Clock.clock c.args.clock.now c.loop-reported.clock c.deliver_turn-worked.new.clock (all_readings i.0) (readings d.0) so_far (d.4 so_far.tells),
       λ told. let so_far = i.8 told in
           prints_some g.O.Sink.sink c.args.output.now c.loop-reported.output c.write_report.new.output (lines_of i.0) (last_line d.0) _ (ap line_of (sym report)) so_far.1 (c.in-Err.ensures.writes so_far.0),
@@ -100,7 +100,7 @@ loop-reported-preserved g c =
               let chain = i.5.1 b is in
               chain_more g.K.Keeper.keeper c.args.room.now c.loop-reported.room d.2.0 c.deliver_turn-worked.new.room b (g.L.Link.link.serves c.args.link.now) i.0 i.5.0 d.0 d.2.1 d.2.2 chain (subst (λ (ns : List Bytes). TurnHappens g.K.Keeper.keeper c.loop-reported.room d.2.0 c.deliver_turn-worked.new.room (onto i.5.0 b) ns d.0 d.2.1 d.2.2) i.4 (d.2.3 (onto i.5.0 b) chain.behind.stands)) reported,
         ),
-        λ told. let so_far = i.6 told in passes_more g.L.Link.link c.args.link.now c.loop-reported.link c.deliver_turn-worked.new.link (all_frames i.0) (frames_of d.0.claimed d.0.exchange) (all_replies i.0) (replies_of d.0.claimed d.0.exchange) so_far (d.3 so_far.tells),
+        λ told. let so_far = i.6 told in passes_more g.L.Link.link c.args.link.now c.loop-reported.link c.deliver_turn-worked.new.link (all_frames i.0) (frames_of d.0.claimed d.0.exchange) (all_replies i.0) (replies_of d.0.claimed d.0.exchange) (all_passed i.0) (passed_of d.0.claimed d.0.exchange) so_far (d.3 so_far.tells),
         λ told. let so_far = i.7 told in reads_then g.C.Clock.clock c.args.clock.now c.loop-reported.clock c.deliver_turn-worked.new.clock (all_readings i.0) (readings d.0) so_far (d.4 so_far.tells),
         λ told.
             let so_far = i.8 told in

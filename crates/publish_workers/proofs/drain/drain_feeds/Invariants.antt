@@ -4,7 +4,7 @@ use Rattle.news_types.specs.Books.{Book}
 use Rattle.news_room.specs.Stands.{Stands, LIMIT}
 use Rattle.publish_workers.specs.Turns.{Turn}
 use Rattle.publish_workers.specs.Links.{Passes, Reads, CountsFaults}
-use Rattle.publish_workers.specs.Drains.{AllReported, lost_in, refused_in, all_frames, all_replies, all_readings, lines_of}
+use Rattle.publish_workers.specs.Drains.{AllReported, lost_in, refused_in, all_frames, all_replies, all_passed, all_readings, lines_of}
 use Rattle.publish_workers.proofs.Draining.{Chain}
 use Rattle.publish_workers.proofs.drain.drain_feeds.Given as goal
 
@@ -17,7 +17,7 @@ invariant-loop-reported g l =
     × ((ts : List Turn) × AllReported ts × (l.link_failed ≡ lost_in ts) × (l.no_receipt ≡ refused_in ts)
     × (g.L.Link.link.serves l.link ≡ g.L.Link.link.serves l.initial.link)
     × ((more : List Entry) × ((b : Book) → Stands g.K.Keeper.keeper l.initial.room b → Chain g.K.Keeper.keeper l.initial.room l.room b (g.L.Link.link.serves l.initial.link) ts more))
-    × (g.L.Link.link.tells l.initial.link → Passes g.L.Link.link l.initial.link l.link (all_frames ts) (all_replies ts))
+    × (g.L.Link.link.tells l.initial.link → Passes g.L.Link.link l.initial.link l.link (all_frames ts) (all_replies ts) (all_passed ts))
     × (g.C.Clock.clock.tells l.initial.clock → Reads g.C.Clock.clock l.initial.clock l.clock (all_readings ts))
     × (g.O.Sink.sink.tells l.initial.output → g.O.Sink.sink.tells l.output × (g.O.Sink.sink.taken l.output ≡ g.O.Sink.sink.taken l.initial.output ++ lines_of ts)))
 

@@ -7,7 +7,7 @@ use Rattle.news_room.specs.Stands.{numbers}
 use Rattle.news_room.specs.declared.claim.Claimed as claims
 use Rattle.publish_workers.specs.declared.worked.Worked.{Worked}
 use Rattle.publish_workers.specs.Links.{Passes, CountsFaults}
-use Rattle.publish_workers.specs.Turns.{Turn, Unsent, frames_to, replies_from, receipt_readings, is_store_fault}
+use Rattle.publish_workers.specs.Turns.{Turn, Unsent, frames_to, replies_from, passed_with, receipt_readings, is_store_fault}
 use Rattle.publish_workers.proofs.Named.{choice_named}
 use Rattle.publish_workers.proofs.Exchanging.{passes_none, reads_then}
 use Rattle.publish_workers.proofs.Turning.{job_there, job_turn, idle_turn, fault_turn, full_turn, memory_turn, turn_counts, claimed_as}
@@ -49,7 +49,7 @@ returns-in-Job-clause-turn g c =
             let there = job_there (numbers g.K.Keeper.keeper c.args.room.now c.claim.new.self) b c.now-now.result (g.L.Link.link.serves c.args.link.now) r.0 c.in-Job.subscriber c.in-Job.k c.in-Job.frame c.in-Job.front claim.step in
             job_turn g.K.Keeper.keeper c.args.room.now c.claim.new.self b (g.L.Link.link.serves c.args.link.now) c.now-now.result r.0 c.in-Job.subscriber c.in-Job.k c.in-Job.frame c.in-Job.front claim c.exchange.new.room e.0 e.2.0 then.0 (then.1 there),
       ),
-      λ told. subst (λ (bytes : Bytes). Passes g.L.Link.link c.args.link.now c.exchange.new.link (frames_to s bytes e.0) (replies_from s e.0)) c.as_slice.ensures (e.3 told),
+      λ told. subst (λ (bytes : Bytes). Passes g.L.Link.link c.args.link.now c.exchange.new.link (frames_to s bytes e.0) (replies_from s e.0) (passed_with s bytes e.0)) c.as_slice.ensures (e.3 told),
       λ told. let first = c.now-now.ensures.told told in
           reads_then g.C.Clock.clock c.args.clock.now c.now-now.new.self c.exchange.new.clock (c.now-now.result ∷ []) (receipt_readings e.0) (record { tells = first; gave = c.now-now.ensures.given told }) (e.4 first),
     )

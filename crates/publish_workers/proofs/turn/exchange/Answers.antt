@@ -22,7 +22,7 @@ returns-in-Err-clause-went g c = (
   Unsent,
   refl,
   ([], λ b is. ((refl, refl), λ there. tt)),
-  λ told. passes_unsent g.L.Link.link c.args.link.now c.send.new.self (c.send.ensures.told told) (c.in-Err.ensures.lost told) (c.send.ensures.said told),
+  λ told. passes_unsent g.L.Link.link c.args.link.now c.send.new.self (c.send.ensures.told told) (c.in-Err.ensures.lost told) (c.send.ensures.said told) (c.in-Err.ensures.still told),
   λ told. record { tells = told; gave = λ i. refl },
 )
 
@@ -41,7 +41,8 @@ returns-in-Ok-clause-went g c =
       λ told.
           let sent = c.send.ensures.told told in
           passes_replied g.L.Link.link c.args.link.now c.send.new.self c.receipt.new.self c.args.subscriber c.args.frame.now c.reply_of.result _ a.0 a.2 c.reply_of.ensures
-          (c.receipt.ensures.told sent) (c.in_default.ensures.sent told) (c.send.ensures.said told) (c.receipt.ensures.sent sent) (c.in-Ok.ensures.said sent),
+          (c.receipt.ensures.told sent) (c.in_default.ensures.sent told) (c.send.ensures.said told) (c.receipt.ensures.sent sent) (c.in-Ok.ensures.said sent)
+          (c.in_default.ensures.step told) (c.in-Ok.ensures.step sent),
       a.4,
     )
 
@@ -60,8 +61,9 @@ returns-in-Err-receipt-clause-went g c = (
   ([], λ b is. ((refl, refl), λ there. tt)),
   λ told.
       let sent = c.send.ensures.told told in
-      passes_unread g.L.Link.link c.args.link.now c.send.new.self c.receipt.new.self (c.args.subscriber, c.args.frame.now)
-      (c.receipt.ensures.told sent) (c.in_default.ensures.sent told) (c.send.ensures.said told) (c.receipt.ensures.sent sent) (c.in-Err-receipt.ensures.silent sent),
+      passes_unread g.L.Link.link c.args.link.now c.send.new.self c.receipt.new.self c.args.subscriber c.args.frame.now
+      (c.receipt.ensures.told sent) (c.in_default.ensures.sent told) (c.send.ensures.said told) (c.receipt.ensures.sent sent) (c.in-Err-receipt.ensures.silent sent)
+      (c.in_default.ensures.step told) (c.in-Err-receipt.ensures.still sent),
   λ told. record { tells = told; gave = λ i. refl },
 )
 
