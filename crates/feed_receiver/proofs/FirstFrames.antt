@@ -1,5 +1,5 @@
 -- What the first bytes of an input are, from what reading gives.
-use Rattle.std.proofs.Common.{◌≡◌, ℕ, ◌<◌, ◌≤◌, ◌-◌, List, length, take, Ok, Err, refl, sym, ap, subst, ◌∙◌, arith, length-append}
+use Rattle.std.proofs.Common.{◌≡◌, ℕ, ◌<◌, ◌≤◌, ◌-◌, List, ◌++◌, length, take, Ok, Err, refl, sym, ap, subst, ◌∙◌, arith, length-append}
 use Rattle.std.proofs.lemmas.List.{take_all}
 use Rattle.std.proofs.Math.Seq.{take-append_seam}
 use Rattle.news_types.specs.Names.{Bytes}
@@ -37,14 +37,17 @@ module _ (bytes : Bytes) (ib : IsBytes bytes) where
   fault_at : (left : ℕ) → read_frame_at bytes ≡ Err left → IsFaultAt frame_bytes IsFrame bytes (length bytes - left)
   fault_at left e = all_fault frame IsFrame frame_lawful bytes left ib (whole_fault left e)
 
+  none_whole : (left : ℕ) → read_frame_at bytes ≡ Err left → (f : Frame) (rest : Bytes) → IsFrame f → bytes ≡ frame_bytes f ++ rest → ⊥
+  none_whole left e = λ f rest form is. not_both (read_frame_at bytes) (f, rest) left (ap read_frame_at is ∙ frame_lawful.again f rest form) e
+
   pub first_bad : (left : ℕ) → 0 < left → read_frame_at bytes ≡ Err left → IsFirst bytes (Bad (length bytes - left))
   first_bad left some e =
       let at = fault_at left e in
       let within : length bytes - left < length bytes = omega (arith, fault_within left e) in
-      (within, at.before, at.here within)
+      (within, at.before, at.here within, none_whole left e)
 
   pub first_cut : read_frame_at bytes ≡ Err 0 → IsFirst bytes Cut
   first_cut e =
       let at = fault_at 0 e in
       let whole : take (length bytes - 0) bytes ≡ bytes = take_all (length bytes - 0) bytes (omega arith) in
-      (subst (Begins frame_bytes IsFrame) whole at.before, λ f rest form is. not_both (read_frame_at bytes) (f, rest) 0 (ap read_frame_at is ∙ frame_lawful.again f rest form) e)
+      (subst (Begins frame_bytes IsFrame) whole at.before, none_whole 0 e)

@@ -143,6 +143,7 @@ impl<K: Keeper> Receiver<K> {
         ensures step { (more : List Frame) × ((b : Received) → Holds K.keeper self.old b → Holds K.keeper self.new (onto more b) × IsStep b.name b.frames frame.now result more) }
         ensures unasked { SameUnlessAsked self.old self.new result }
         ensures counts { IsCounted (numbers K.keeper self.old.keeper) (numbers K.keeper self.new.keeper) frame.now result }
+        ensures label { K.keeper.label self.new.keeper ≡ K.keeper.label self.old.keeper }
         ensures told { K.keeper.tells self.old.keeper → K.keeper.tells self.new.keeper }
         ensures doubts { K.keeper.tells self.old.keeper → DoubtsAfter (K.keeper.doubts self.old.keeper) (K.keeper.doubts self.new.keeper) frame.now (fate_of result) }
         // Each moment of the call leaves what the state before it allows, or the state after it.

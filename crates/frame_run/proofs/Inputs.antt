@@ -75,29 +75,10 @@ none_whole bytes at within none here f more form is =
     (λ (le : length (frame_bytes f) ≤ at). let front = front_of bytes more at f (omega (arith, within)) is le in none f front.0 form front.1)
     (cases_lt at (length (frame_bytes f)))
 
--- the first of bytes that begin a frame begin it too
-begins_front : (bytes : Bytes) (n : ℕ) → Begins frame_bytes IsFrame bytes → Begins frame_bytes IsFrame (take n bytes)
-begins_front bytes n b = record {
-  value = b.value;
-  fits = b.fits;
-  more = drop n bytes ++ b.more;
-  is = b.is ∙ ap (λ (l : Bytes). l ++ b.more) (sym (take-append-drop n bytes)) ∙ append_assoc (take n bytes) (drop n bytes) b.more;
-}
-
-pub bad_byte : (bytes : Bytes) (at : ℕ) (before : FirstFrame) → ((size : ℕ) → before ≡ Whole size → ⊥) → IsFirst bytes (Bad at) → IsFirst (take at bytes) before → IsBadByte bytes at
-bad_byte bytes at (Whole size) other bad first = absurd (other size refl)
-bad_byte bytes at (Bad n) other bad first = absurd (first.2 (begins_front (take at bytes) (n + 1) bad.1))
-bad_byte bytes at Cut other bad first = record { within = bad.0; before = bad.1; here = bad.2; none = none_whole bytes at bad.0 first.1 bad.2 }
-
-pub whole_before : (bytes : Bytes) (at size : ℕ) → at < length bytes → IsFirst (take at bytes) (Whole size) → IsNext bytes (Whole size)
-whole_before bytes at size within first =
-    let le : size ≤ at = omega (arith, first.3, length-take at bytes) in
-    (omega (arith, le, within), (first.0, record { form = first.1; is = sym (take-take size at bytes le) ∙ first.2 }))
-
-pub first_next : (bytes : Bytes) (first : FirstFrame) → ((at : ℕ) → first ≡ Bad at → ⊥) → IsFirst bytes first → IsNext bytes first
-first_next bytes (Whole size) other first = (first.3, (first.0, record { form = first.1; is = first.2 }))
-first_next bytes (Bad at) other first = absurd (other at refl)
-first_next bytes Cut other first = record { begins = first.0; none = first.1 }
+pub first_next : (bytes : Bytes) (first : FirstFrame) → IsFirst bytes first → IsNext bytes first
+first_next bytes (Whole size) first = (first.3, (first.0, record { form = first.1; is = first.2 }))
+first_next bytes (Bad at) first = record { within = first.0; before = first.1; here = first.2; none = first.3 }
+first_next bytes Cut first = record { begins = first.0; none = first.1 }
 
 -- ---- a rest that is no frame
 

@@ -88,7 +88,7 @@ ends_by why = Err why
 same_end : (a b : Ending) → ends_by a ≡ ends_by b → a ≡ b
 same_end a b is = cc
 
-module _ {K : Type 0} (keeper : KeeperMeaning K) (old new : Receiver K) (b : Received) (h : Holds keeper old b) (f : Frame) (bytes : Bytes) (a : AreFrame f bytes) where
+module _ {K : Type 0} (keeper : KeeperMeaning K) (old new : Receiver K) (b : Received) (h : Holds keeper old b) (f : Frame) (bytes : Bytes) (a : AreFrame f bytes) (label : keeper.label new.keeper ≡ keeper.label old.keeper) where
   -- it holds these now, which are what it held and more
   kept_by : (now more : List Frame) → now ≡ b.frames ++ more → Holds keeper new (onto more b) → keeper.used new.keeper + record_bytes b.frames ≡ keeper.used old.keeper + record_bytes now
       → (keeper.tells old.keeper → KeeperGains keeper old.keeper new.keeper (BeforeOrAfter (keeper.list old.keeper) (keeper.doubts old.keeper) (keeper.list new.keeper) (keeper.doubts new.keeper)))
@@ -99,6 +99,7 @@ module _ {K : Type 0} (keeper : KeeperMeaning K) (old new : Receiver K) (b : Rec
         list = list;
         more = (more, is);
         used = used;
+        label = label;
         time = λ t. elapses_weaker _ _ _ _ _ (Between b.frames now (keeper.doubts old.keeper) (keeper.doubts new.keeper)) (crash (h.kept t).told)
             (λ found left. between_of b.frames now _ _ _ _ found (h.kept t).is (list.kept t).is (more, is) left);
       }

@@ -62,6 +62,7 @@ module _ {K : Type 0} (keeper : KeeperMeaning K) where
     list = h;
     more = ([], sym (append-nil b.frames));
     used = refl;
+    label = refl;
     time = λ t. elapses_same (keeper.moment it.keeper) (keeper.left_since it.keeper) (Between b.frames b.frames (keeper.doubts it.keeper) (keeper.doubts it.keeper));
   }
 
@@ -74,6 +75,7 @@ module _ {K : Type 0} (keeper : KeeperMeaning K) where
         list = then.list;
         more = (first.more.0 ++ then.more.0, then.more.1 ∙ ap (λ (l : List Frame). l ++ then.more.0) first.more.1 ∙ append_assoc b.frames first.more.0 then.more.0);
         used = omega (arith, first.used, then.used);
+        label = then.label ∙ first.label;
         time = λ t. elapses_then _ _ _ _ _ _ (Between b.frames k D F)
             (elapses_weaker _ _ _ _ (Between b.frames g D E) (Between b.frames k D F) (first.time t) (λ found x. between_longer b.frames g k D E F found then.more (calm t) x))
             (elapses_weaker _ _ _ _ (Between g k E F) (Between b.frames k D F) (then.time t) (λ found x. between_later b.frames g k D E F found first.more (calm t) x));

@@ -59,6 +59,7 @@ pub record Kept {K : Type 0} (keeper : KeeperMeaning K) (old new : Receiver K) (
   pub list : Holds keeper new (holding frames b)
   pub more : (more : List Frame) × (frames ≡ b.frames ++ more)
   pub used : keeper.used new.keeper + record_bytes b.frames ≡ keeper.used old.keeper + record_bytes frames
+  pub label : keeper.label new.keeper ≡ keeper.label old.keeper
   pub time : b.told ≡ true → KeeperGains keeper old.keeper new.keeper (Between b.frames frames (keeper.doubts old.keeper) (keeper.doubts new.keeper))
 
 -- ---- frames in turn

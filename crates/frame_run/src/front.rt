@@ -2,25 +2,12 @@
 ghost use Rattle.std.specs.Prelude.{◌≡◌, ◌≤◌, ◌<◌, ◌+◌, ◌^◌, ◌++◌, length, drop, IfOk, OnOk, vec_len};
 ghost use Rattle.feed_receiver.specs.Holds.{Received, Holds};
 ghost use Rattle.frame_run.specs.Answers.{Causes};
-ghost use Rattle.frame_run.specs.Run.{IsNext, Found};
+ghost use Rattle.frame_run.specs.Run.{Found};
 
 use crate::Ending;
 use crate::answering::answer_frame;
 use feed_receiver::{FirstFrame, Receiver, first_frame};
 use news_io::{Keeper, Sink};
-
-/// What stands first in these bytes. A frame that ends where a byte behind it goes on with none is whole.
-fn next_frame(bytes: &[u8]) -> FirstFrame
-    ensures { IsNext bytes.now result }
-{
-    match first_frame(bytes) {
-        FirstFrame::Bad { at } => match first_frame(&bytes[..at]) {
-            FirstFrame::Whole { size } => FirstFrame::Whole { size },
-            _ => FirstFrame::Bad { at },
-        },
-        first => first,
-    }
-}
 
 /// Answers the whole frames at the front of these bytes, which begin at this place of the input, and gives how many bytes
 /// they have.
@@ -38,7 +25,7 @@ fn answer_whole<O: Sink, K: Keeper>(
     let mut done = 0;
     'frames: loop {
         let rest = &bytes[done..];
-        match next_frame(rest) {
+        match first_frame(rest) {
             FirstFrame::Whole { size } => {
                 if let Err(why) = answer_frame(&rest[..size], output, receiver) {
                     return Err(why);

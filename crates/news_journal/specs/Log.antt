@@ -1,5 +1,5 @@
 -- The bytes of a log: a header, and then records, each behind a gate.
-use Rattle.std.specs.Prelude.{◌≡◌, ◌⊎◌, ℕ, zero, suc, ◌+◌, ◌-◌, ◌≤◌, ◌^◌, List, [], ◌∷◌, ◌++◌, length, take, drop, map, replicate, codes, Bool, true, false, ◌&&◌, ◌==◌, nat_le, nat_lt, if◌then◌else◌, Option, Some, None, IsTrue, slice_get}
+use Rattle.std.specs.Prelude.{◌≡◌, ◌⊎◌, ℕ, zero, suc, ◌+◌, ◌-◌, ◌≤◌, ◌^◌, List, [], ◌∷◌, ◌++◌, length, take, drop, map, replicate, codes, Bool, true, false, ◌&&◌, ◌==◌, nat_le, nat_lt, if◌then◌else◌, Option, Some, None, IsTrue, slice_get, slice_index}
 use Rattle.std.specs.Int.{w32, to_be_bytes, from_be_bytes}
 use Rattle.news_types.specs.Names.{Bytes, is_name}
 use Rattle.news_journal.specs.declared.header.Header.{Header}
@@ -14,9 +14,9 @@ IsOfForm (Receiver name) = IsTrue (is_name name)
 unfoldable pub room_head : ℕ → List ℕ → Bytes → List ℕ
 room_head edition base store = codes "NEWSDESK" ++ edition ∷ 1 ∷ (base ++ (store ++ replicate 32 0))
 
--- the store's identifier in a room's header
-unfoldable pub store_in : List ℕ → Bytes
-store_in head = take 16 (drop 16 head)
+-- whose log it is, by its header: the store's identifier in a room's, and a receiver's header as a whole
+abbrev pub owner_in : List ℕ → Bytes
+owner_in head = if slice_index head 9 == 1 then take 16 (drop 16 head) else head
 
 -- the header of a receiver: NEWSDESK, the edition, the kind 2, zeros, and the name filled with zeros
 unfoldable pub receiver_head : ℕ → Bytes → List ℕ

@@ -47,7 +47,8 @@ pub enum Status {
     TooLong,
     /// What follows the last whole frame of the input is no frame.
     BadFrame {
-        /// Where it begins, in bytes from the input's start.
+        /// The first byte with which no frame goes on, in bytes from the input's start; the input's length where it ends
+        /// within a frame.
         at: u64,
     },
 }
