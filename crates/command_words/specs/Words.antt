@@ -9,7 +9,7 @@ use Rattle.news_types.specs.declared.words.Format.{Format}
 use Rattle.news_types.specs.declared.words.Format.TheVariants.{Ninjs, Text7901}
 use Rattle.news_types.specs.Names.{Bytes, same, is_name}
 use Rattle.command_words.specs.declared.words.Job.{Job}
-use Rattle.command_words.specs.declared.words.Job.TheVariants.{Init, Batch, Ingest, Feed, Queue, Drain, Check, Pack}
+use Rattle.command_words.specs.declared.words.Job.TheVariants.{Init, Batch, Ingest, Feed, Queue, Drain, Receive, Check, Pack}
 
 -- of two words
 abbrev pub short_job : Bytes → Option Job
@@ -20,9 +20,16 @@ short_job verb =
     else (if same verb (codes "pack") then Some Pack
     else None)))
 
+-- the name that a word is
+abbrev pub name_of : Bytes → Option Bytes
+name_of word = if is_name word then Some word else None
+
 -- of three words
 abbrev pub long_job : Bytes → Bytes → Option Job
-long_job verb identifier = if same verb (codes "init") then option_map Init (parsed identifier) else None
+long_job verb word =
+    if same verb (codes "init") then option_map Init (parsed word)
+    else (if same verb (codes "receive") then option_map Receive (name_of word)
+    else None)
 
 -- the format of what comes in
 abbrev pub format_of : Bytes → Option Format
@@ -30,10 +37,6 @@ format_of word =
     if same word (codes "7901") then Some Text7901
     else (if same word (codes "ninjs") then Some Ninjs
     else None)
-
--- the name that a word is
-abbrev pub name_of : Bytes → Option Bytes
-name_of word = if is_name word then Some word else None
 
 -- to take in what comes in this format from this provider
 abbrev pub ingest_of : Option Format → Option Bytes → Option Job
@@ -82,12 +85,12 @@ drain_job pairs = if are_pairs pairs then Some Drain else None
 -- of a verb and the words behind the store
 abbrev pub job_by : Bytes → List Bytes → Option Job
 job_by verb [] = short_job verb
-job_by verb (identifier ∷ []) = long_job verb identifier
+job_by verb (word ∷ []) = long_job verb word
 job_by verb (first ∷ second ∷ []) = wide_job verb first second
 job_by verb words = None
 
 -- `init STORE UUID`, `batch STORE`, `ingest STORE FORMAT PROVIDER`, `feed STORE SUBSCRIBER AFTER`, `queue STORE`, `drain STORE` with
--- pairs of a NAME and an ADDRESS, `check STORE` and `pack STORE`; a store and an address are any words
+-- pairs of a NAME and an ADDRESS, `receive STORE NAME`, `check STORE` and `pack STORE`; a store and an address are any words
 abbrev pub job_of : List Bytes → Option Job
 job_of (verb ∷ store ∷ words) = if same verb (codes "drain") then drain_job words else job_by verb words
 job_of words = None

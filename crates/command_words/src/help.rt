@@ -28,6 +28,10 @@ const DRAIN: &str =
     "newsdesk drain STORE NAME ADDRESS ..    send what is due to these receivers, each with its host and port, until nothing is
 ";
 
+const RECEIVE: &str =
+    "newsdesk receive STORE NAME             take the frames of standard input as the receiver of this name, keep them, and write a receipt for each
+";
+
 const CHECK: &str =
     "newsdesk check STORE                    open the log, and say how many entries and publications it holds
 ";
@@ -47,14 +51,14 @@ or a question, as
   {\"ask\":\"feed\",\"subscriber\":\"alpha\",\"after\":0}
 
 Exit status: 0 all was answered, 2 usage, 3 wrong store, 4 read fault, 5 write fault, 6 store fault,
-7 damaged log or side, 8 log or side full, 9 out of memory, 10 link fault, 11 no receipt, 12 input too long. A status other than 0 and 5 is written
+7 damaged log or side, 8 log or side full, 9 out of memory, 10 link fault, 11 no receipt, 12 input too long, 13 no frame. A status other than 0 and 5 is written
 to the output too, as {\"status\":7} with the place of the damage.
 ";
 
 /// How the program is used, for `--help`: texts, to be written one behind the other. Each command has a line.
-pub fn help_texts() -> [&'static str; 10] {
+pub fn help_texts() -> [&'static str; 11] {
     [
-        HEAD, INIT, BATCH, INGEST, FEED, QUEUE, DRAIN, CHECK, PACK, TAIL,
+        HEAD, INIT, BATCH, INGEST, FEED, QUEUE, DRAIN, RECEIVE, CHECK, PACK, TAIL,
     ]
 }
 
@@ -67,6 +71,7 @@ pub fn command_help(command: &str) -> Option<&'static str> {
         "feed" => Some(FEED),
         "queue" => Some(QUEUE),
         "drain" => Some(DRAIN),
+        "receive" => Some(RECEIVE),
         "check" => Some(CHECK),
         "pack" => Some(PACK),
         _ => None,

@@ -4,7 +4,7 @@ ghost use Rattle.std.specs.Char.{is_ascii_digit};
 ghost use Rattle.std.specs.List.{list_all};
 ghost use Rattle.std.specs.Option.{option_map};
 ghost use Rattle.uuid.specs.Text.{parsed};
-ghost use Rattle.command_words.specs.declared.words.Job.TheVariants.{Init};
+ghost use Rattle.command_words.specs.declared.words.Job.TheVariants.{Init, Receive};
 ghost use Rattle.command_words.specs.Words.{feed_of, format_of, ingest_of, job_of, name_of, number_of};
 ghost use Rattle.command_words.specs.Words as spec;
 
@@ -26,6 +26,8 @@ pub enum Job {
     Queue,
     /// To push what is due over the links to receivers.
     Drain,
+    /// To take the frames of the input as the receiver of this name.
+    Receive(Name),
     /// To open the log, and tell what it holds.
     Check,
     /// To let the side take what only the log has, and empty the log.
@@ -51,7 +53,7 @@ fn job_by(verb: &str, words: &[Text]) -> Option<Job>
 {
     match words {
         [] => short_job(verb),
-        [identifier] => long_job(verb, identifier.as_str()),
+        [word] => long_job(verb, word.as_str()),
         [first, second] => wide_job(verb, first.as_str(), second.as_str()),
         _ => None,
     }
@@ -104,12 +106,15 @@ fn short_job(verb: &str) -> Option<Job>
     }
 }
 
-/// What this word, a store and an identifier ask for.
-fn long_job(verb: &str, identifier: &str) -> Option<Job>
-    ensures { result ≡ spec.long_job verb.now identifier.now }
+/// What this word, a store and one word more ask for.
+fn long_job(verb: &str, word: &str) -> Option<Job>
+    ensures { result ≡ spec.long_job verb.now word.now }
 {
     if verb == "init" {
-        return init_job(identifier);
+        return init_job(word);
+    }
+    if verb == "receive" {
+        return receive_job(word);
     }
     None
 }
@@ -122,6 +127,13 @@ fn init_job(identifier: &str) -> Option<Job>
         Ok(store) => Some(Job::Init(store)),
         Err(_) => None,
     }
+}
+
+/// To take frames as the receiver of this name, if it is one.
+fn receive_job(name: &str) -> Option<Job>
+    ensures { result ≡ option_map Receive (name_of name.now) }
+{
+    Some(Job::Receive(Name::read(name)?))
 }
 
 /// What this word, a store and two words more ask for.

@@ -32,7 +32,7 @@ not_empty bytes n is some none = some (is ∙ ap length none)
 
 module _ {D : Type 0} (disk : DiskMeaning D) where
   -- a log that was only read
-  pub still_leaves : (P : List ℕ → Type 0) (log new : D) → Still disk log new → LeavesOnly disk log new (λ c. disk.may_leave log c ⊎ P c)
+  still_leaves : (P : List ℕ → Type 0) (log new : D) → Still disk log new → LeavesOnly disk log new (λ c. disk.may_leave log c ⊎ P c)
   still_leaves P log new still = record {
     later = still.time.later;
     each = λ c left. elim (still.time.nothing_else (disk.moment log) c (omega arith) left) [ inl was ↦ inl (disk.only_now log c was) | inr may ↦ inl may ];

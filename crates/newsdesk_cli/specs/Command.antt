@@ -3,6 +3,7 @@ use Rattle.std.specs.Prelude.{◌≡◌, ◌⊎◌, ◌≤◌, ℕ, ◌+◌, Boo
 use Rattle.news_types.specs.declared.query.Query.TheVariants as query
 use Rattle.news_types.specs.declared.words.Format.{Format}
 use Rattle.news_types.specs.Books.{Book}
+use Rattle.news_types.specs.Frames.{Frame}
 use Rattle.news_types.specs.Names.{Bytes}
 use Rattle.news_types.specs.History.{History}
 use Rattle.news_types.specs.Doubt.{payloads}
@@ -34,6 +35,9 @@ use Rattle.room_runs.specs.Lines.{no_frames, LONGEST_INPUT}
 use Rattle.room_reports.specs.Reports.{feed_report_at, queue_report_at, IsReport}
 use Rattle.publish_workers.specs.LinkDrains.{IsDrained}
 use Rattle.newsdesk_cli.specs.Packing.{packed_line, Packs, PacksNot}
+use Rattle.receiver_files.specs.Log.{Gives}
+use Rattle.receiver_files.specs.Receive as receiver
+use Rattle.receiver_files.specs.Receive.{IsReceive}
 use Rattle.store_files.specs.Files.{FilesHold, CrashKeeps}
 use Rattle.store_files.specs.Store.{IsRefused, IsOpenRoom}
 use Rattle.run_status.specs.Status.{number_of, line_of}
@@ -42,7 +46,7 @@ use Rattle.store_files.specs.Trouble.{status_of, trouble_of_pack}
 use Rattle.store_files.specs.declared.trouble.Trouble.{Trouble}
 use Rattle.store_files.specs.declared.trouble.Trouble.TheVariants as trouble
 use Rattle.command_words.specs.declared.words.Job.{Job}
-use Rattle.command_words.specs.declared.words.Job.TheVariants.{Init, Batch, Ingest, Feed, Queue, Drain, Check, Pack}
+use Rattle.command_words.specs.declared.words.Job.TheVariants.{Init, Batch, Ingest, Feed, Queue, Drain, Receive, Check, Pack}
 
 -- how many entries and publications a list has, as a line
 abbrev pub check_line : History → List ℕ
@@ -203,11 +207,11 @@ module _ {D O : Type 0} (disk : DiskMeaning D) (sink : SinkMeaning O) (store : B
   abbrev pub MayBeMade : Type 0
   MayBeMade = LeavesOnly disk log log' (λ c. disk.may_leave log c ⊎ IsInTheMaking (header.Room store) c)
 
-  -- a disk has failed
+  -- a disk has failed: the log is as it was; or both files were empty, and it may be a log in the making
   pub record IsUnmade : Type 0 where
     pub rose : Rose (disk.faults log + disk.faults side) (disk.faults log' + disk.faults side')
     pub told : disk.tells log → disk.tells log'
-    pub crash : disk.tells log → MayBeMade
+    pub crash : disk.tells log → Still disk log log' ⊎ ((disk.seen log ≡ []) × (disk.tells side → disk.seen side ≡ []) × MayBeMade)
     pub still_side : Still disk side side'
     pub stopped : IsStopped sink trouble.Store o o' status
 
@@ -252,6 +256,7 @@ module _ {D O S C L : Type 0} (disk : DiskMeaning D) (clock : ClockMeaning C) (s
   Does (Some (Feed subscriber after)) = (i' ≡ i) × IsReportOf disk clock sink log log' side side' o o' c c' status (feed_report_at subscriber after)
   Does (Some Queue) = (i' ≡ i) × IsReportOf disk clock sink log log' side side' o o' c c' status queue_report_at
   Does (Some Drain) = (i' ≡ i) × IsDrain disk clock sink log log' side side' o o' c c' status link l l'
+  Does (Some (Receive name)) = (c' ≡ c) × (side' ≡ side) × IsReceive disk source sink name log log' i i' o o' status
   Does (Some (Ingest format provider)) = IsIngest disk clock source sink log log' side side' i i' o o' c c' status format provider
 
 -- the files are not refused for their bytes, and a failure is told only where the count of the disks rose
@@ -269,5 +274,11 @@ Serves before now (Some (Ingest format provider)) status = IsServed before now s
 Serves before now (Some (Feed subscriber after)) status = IsServed before now status
 Serves before now (Some Queue) status = IsServed before now status
 Serves before now (Some Drain) status = IsServed before now status
+Serves before now (Some (Receive name)) status = Unit {0}
 Serves before now (Some Check) status = IsServed before now status
 Serves before now (Some Pack) status = IsServed before now status
+
+-- what `receive` answers on a file that is empty or holds the receiver's frames
+abbrev pub ReceiverServes : List ℕ → ℕ → ℕ → Option Job → ℕ → Type 0
+ReceiverServes log before now (Some (Receive name)) status = (frames : List Frame) → Gives name log frames → receiver.IsServed before now status
+ReceiverServes log before now job status = Unit {0}

@@ -1,13 +1,16 @@
 //! What a command line does.
-ghost use Rattle.std.specs.Prelude.{◌≡◌, ◌+◌, [], Some, IfOk, IsTrue, length};
+ghost use Rattle.std.specs.Prelude.{◌≡◌, ◌+◌, List, [], Some, IfOk, IsTrue, length};
 ghost use Rattle.news_io.specs.Faults.{Counts};
 ghost use Rattle.news_journal.specs.Opened.{Still};
 ghost use Rattle.news_types.specs.History.{History};
+ghost use Rattle.news_types.specs.Frames.{Frame};
 ghost use Rattle.news_types.specs.Names.{Bytes};
+ghost use Rattle.receiver_files.specs.Log.{Gives};
+ghost use Rattle.receiver_files.specs.Receive.{IsReceive, IsServed};
 ghost use Rattle.room_reports.specs.Reports.{feed_report_at, queue_report_at};
 ghost use Rattle.store_files.specs.Store.{Opens};
 ghost use Rattle.command_words.specs.Words.{job_of};
-ghost use Rattle.newsdesk_cli.specs.Command.{IsInit, IsBatch, IsIngest, IsReportOf, IsDrain, IsCheck, IsPack, Does, Serves};
+ghost use Rattle.newsdesk_cli.specs.Command.{IsInit, IsBatch, IsIngest, IsReportOf, IsDrain, IsCheck, IsPack, Does, Serves, ReceiverServes};
 ghost use Rattle.command_words.specs.declared.words.Job.TheVariants.{Drain};
 
 use crate::check::check_line;
@@ -18,6 +21,7 @@ use news_io::{Clock, Disk, Failed, Keeper, Link, Sink, Source};
 use news_journal::{Header, Journal};
 use news_types::{Format, Name, Text};
 use publish_workers::drain_links;
+use receiver_files::receive_frames;
 use room_reports::{tell_feed, tell_queue};
 use room_runs::{answer_input, ingest_input};
 use std::alloc::Global;
@@ -25,7 +29,7 @@ use store_files::{Trouble, is_empty, open_room};
 use uuid::Uuid;
 
 /// Does what the words ask for, and gives the status and the two disks back, the log's and the side's. Only `drain` uses the
-/// links.
+/// links; for `receive` the log is a receiver's.
 #[tactic(none)]
 pub fn run<S: Source, O: Sink, D: Disk, C: Clock, L: Link>(
     alloc: Global,
@@ -41,6 +45,8 @@ pub fn run<S: Source, O: Sink, D: Disk, C: Clock, L: Link>(
     // Files that open to a list are never told to be another store's or damaged, and a failed disk is told only where one has failed.
     ensures serves { D.disk.tells log → D.disk.tells side → (store : Bytes) (h : History) → length store ≡ 16 → Opens (D.disk.seen log) (D.disk.seen side) store h
         → Serves (D.disk.faults log + D.disk.faults side) (D.disk.faults result.1 + D.disk.faults result.2) (job_of words.now) result.0 }
+    // A receiver's file that is empty or holds its frames is never told to be another's or damaged either.
+    ensures receives { D.disk.tells log → ReceiverServes (D.disk.seen log) (D.disk.faults log) (D.disk.faults result.1) (job_of words.now) result.0 }
     ensures links { (job_of words.now ≡ Some Drain → ⊥) → links.new.items ≡ links.old.items }
 {
     let Some(job) = read_words(words) else {
@@ -62,6 +68,7 @@ fn do_job<S: Source, O: Sink, D: Disk, C: Clock, L: Link>(
     links: &mut Vec<L>,
 ) -> (u8, D, D)
     ensures does { Does D.disk C.clock S.source O.sink L.link log result.1 side result.2 input.old input.new output.old output.new clock.old clock.new links.old.items links.new.items result.0 (Some job) }
+    ensures receives { D.disk.tells log → ReceiverServes (D.disk.seen log) (D.disk.faults log) (D.disk.faults result.1) (Some job) result.0 }
     ensures links { (job ≡ Drain → ⊥) → links.new.items ≡ links.old.items }
 {
     match job {
@@ -73,6 +80,7 @@ fn do_job<S: Source, O: Sink, D: Disk, C: Clock, L: Link>(
         Job::Feed { subscriber, after } => feed(alloc, output, log, side, clock, subscriber, after),
         Job::Queue => queue(alloc, output, log, side, clock),
         Job::Drain => drain(alloc, output, log, side, clock, links),
+        Job::Receive(name) => receive(alloc, input, output, log, side, name),
         Job::Check => check(alloc, output, log, side),
         Job::Pack => pack(alloc, output, log, side),
     }
@@ -220,6 +228,24 @@ fn drain<O: Sink, D: Disk, C: Clock, L: Link>(
         }
         Err((log, side, trouble)) => (tell_trouble(output, trouble), log, side),
     }
+}
+
+/// Takes the frames of the input as the receiver of this name, whose file is the log. The side is left alone.
+#[tactic(none)]
+fn receive<S: Source, O: Sink, D: Disk>(
+    alloc: Global,
+    input: &mut S,
+    output: &mut O,
+    log: D,
+    side: D,
+    name: Name,
+) -> (u8, D, D)
+    ensures received { IsReceive D.disk S.source O.sink name log result.1 input.old input.new output.old output.new result.0 }
+    ensures side { result.2 ≡ side }
+    ensures serves { D.disk.tells log → (frames : List Frame) → Gives name (D.disk.seen log) frames → IsServed (D.disk.faults log) (D.disk.faults result.1) result.0 }
+{
+    let (status, log) = receive_frames(alloc, input, output, log, name);
+    (status, log, side)
 }
 
 /// Opens the log and its side, and says what they hold.

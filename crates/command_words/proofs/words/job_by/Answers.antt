@@ -6,7 +6,7 @@ use Rattle.command_words.proofs.words.job_by.Goals as goal
 pub returns-in-len1 : goal.returns-in-len1
 returns-in-len1 c =
     c.long_job.ensures ∙ ap (long_job c.args.verb.now) c.as_str.ensures
-    ∙ by_one c.args.verb.now c.args.words.now c.in-len1.len_at_least c.in-len1.len_below c.identifier-item.result c.identifier-item.is
+    ∙ by_one c.args.verb.now c.args.words.now c.in-len1.len_at_least c.in-len1.len_below c.word-item.result c.word-item.is
 
 pub returns-in-len2 : goal.returns-in-len2
 returns-in-len2 c =

@@ -4,11 +4,17 @@ use Rattle.newsdesk_cli.proofs.command.do_job.Goals as goal
 pub returns-in-Init-clause-does : goal.returns-in-Init-clause-does
 returns-in-Init-clause-does g c = rw c.in-Init.is (record { input_same = refl; clock_same = refl }, c.init.ensures)
 
+pub returns-in-Init-clause-receives : goal.returns-in-Init-clause-receives
+returns-in-Init-clause-receives g c told = rw c.in-Init.is tt
+
 pub returns-in-Init-clause-links : goal.returns-in-Init-clause-links
 returns-in-Init-clause-links g c other = refl
 
 pub returns-in-Batch-clause-does : goal.returns-in-Batch-clause-does
 returns-in-Batch-clause-does g c = rw c.in-Batch.is c.batch.ensures
+
+pub returns-in-Batch-clause-receives : goal.returns-in-Batch-clause-receives
+returns-in-Batch-clause-receives g c told = rw c.in-Batch.is tt
 
 pub returns-in-Batch-clause-links : goal.returns-in-Batch-clause-links
 returns-in-Batch-clause-links g c other = refl
@@ -16,11 +22,17 @@ returns-in-Batch-clause-links g c other = refl
 pub returns-in-Ingest-clause-does : goal.returns-in-Ingest-clause-does
 returns-in-Ingest-clause-does g c = rw c.in-Ingest.is c.ingest.ensures
 
+pub returns-in-Ingest-clause-receives : goal.returns-in-Ingest-clause-receives
+returns-in-Ingest-clause-receives g c told = rw c.in-Ingest.is tt
+
 pub returns-in-Ingest-clause-links : goal.returns-in-Ingest-clause-links
 returns-in-Ingest-clause-links g c other = refl
 
 pub returns-in-Feed-clause-does : goal.returns-in-Feed-clause-does
 returns-in-Feed-clause-does g c = rw c.in-Feed.is (refl, c.feed.ensures)
+
+pub returns-in-Feed-clause-receives : goal.returns-in-Feed-clause-receives
+returns-in-Feed-clause-receives g c told = rw c.in-Feed.is tt
 
 pub returns-in-Feed-clause-links : goal.returns-in-Feed-clause-links
 returns-in-Feed-clause-links g c other = refl
@@ -28,23 +40,44 @@ returns-in-Feed-clause-links g c other = refl
 pub returns-in-Queue-clause-does : goal.returns-in-Queue-clause-does
 returns-in-Queue-clause-does g c = rw c.in-Queue.is (refl, c.queue.ensures)
 
+pub returns-in-Queue-clause-receives : goal.returns-in-Queue-clause-receives
+returns-in-Queue-clause-receives g c told = rw c.in-Queue.is tt
+
 pub returns-in-Queue-clause-links : goal.returns-in-Queue-clause-links
 returns-in-Queue-clause-links g c other = refl
 
 pub returns-in-Drain-clause-does : goal.returns-in-Drain-clause-does
 returns-in-Drain-clause-does g c = rw c.in-Drain.is (refl, c.drain.ensures)
 
+pub returns-in-Drain-clause-receives : goal.returns-in-Drain-clause-receives
+returns-in-Drain-clause-receives g c told = rw c.in-Drain.is tt
+
 pub returns-in-Drain-clause-links : goal.returns-in-Drain-clause-links
 returns-in-Drain-clause-links g c other = absurd (other c.in-Drain.is)
 
+pub returns-in-Receive-clause-does : goal.returns-in-Receive-clause-does
+returns-in-Receive-clause-does g c = rw c.in-Receive.is (refl, c.receive.ensures.side, c.receive.ensures.received)
+
+pub returns-in-Receive-clause-links : goal.returns-in-Receive-clause-links
+returns-in-Receive-clause-links g c other = refl
+
+pub returns-in-Receive-clause-receives : goal.returns-in-Receive-clause-receives
+returns-in-Receive-clause-receives g c told = rw c.in-Receive.is (λ frames gives. c.receive.ensures.serves told frames gives)
+
 pub returns-in-Check-clause-does : goal.returns-in-Check-clause-does
 returns-in-Check-clause-does g c = rw c.in-Check.is (record { input_same = refl; clock_same = refl }, c.check.ensures)
+
+pub returns-in-Check-clause-receives : goal.returns-in-Check-clause-receives
+returns-in-Check-clause-receives g c told = rw c.in-Check.is tt
 
 pub returns-in-Check-clause-links : goal.returns-in-Check-clause-links
 returns-in-Check-clause-links g c other = refl
 
 pub returns-in-Pack-clause-does : goal.returns-in-Pack-clause-does
 returns-in-Pack-clause-does g c = rw c.in-Pack.is (record { input_same = refl; clock_same = refl }, c.pack.ensures)
+
+pub returns-in-Pack-clause-receives : goal.returns-in-Pack-clause-receives
+returns-in-Pack-clause-receives g c told = rw c.in-Pack.is tt
 
 pub returns-in-Pack-clause-links : goal.returns-in-Pack-clause-links
 returns-in-Pack-clause-links g c other = refl

@@ -5,7 +5,7 @@ use Rattle.news_journal.specs.Stands.{disk_of}
 use Rattle.news_journal.specs.Created.{IsInTheMaking}
 use Rattle.news_journal.specs.Log.{header_bytes}
 use Rattle.news_journal.specs.declared.header.Header.TheVariants as header
-use Rattle.newsdesk_cli.proofs.Commands.{no_bytes, still_leaves, made_leaves, bare_leaves, made_durable}
+use Rattle.newsdesk_cli.proofs.Commands.{no_bytes, made_leaves, bare_leaves, made_durable}
 use Rattle.store_files.proofs.Counts.{rose_left}
 use Rattle.newsdesk_cli.proofs.command.init.Goals as goal
 
@@ -24,7 +24,7 @@ returns-in-Err g c =
     inr (inl (record {
       rose = c.in-Err.ensures.count.failed;
       told = c.are_empty.ensures.still.told;
-      crash = λ told. still_leaves d (IsInTheMaking (header.Room c.args.store)) c.args.log c.are_empty.new.log c.are_empty.ensures.still;
+      crash = λ told. inl c.are_empty.ensures.still;
       still_side = c.are_empty.ensures.still_side;
       stopped = c.tell_trouble-in-Err.ensures;
     }))
@@ -58,7 +58,11 @@ returns-in-Err-create g c =
     inr (inl (record {
       rose = subst (λ n. Rose n (d.faults c.in-Err-create.log + d.faults c.are_empty.new.side)) c.in-Ok-true.ensures.count.calm (rose_left (d.faults c.are_empty.new.log) (d.faults c.in-Err-create.log) (d.faults c.are_empty.new.side) (d.faults c.are_empty.new.side) (omega arith) c.in-Err-create.ensures.fault.2);
       told = λ told. c.in-Err-create.ensures.told_err (c.are_empty.ensures.still.told told);
-      crash = λ told. made_leaves d (IsInTheMaking (header.Room c.args.store)) c.args.log c.are_empty.new.log c.in-Err-create.log c.are_empty.ensures.still (c.in-Err-create.ensures.crash_err (c.are_empty.ensures.still.told told) (c.are_empty.ensures.still.seen_same ∙ c.in-Ok-true.ensures.empty told c.in-Ok-true.field-0-test));
+      crash = λ told. inr (
+        c.in-Ok-true.ensures.empty told c.in-Ok-true.field-0-test,
+        λ told'. c.in-Ok-true.ensures.empty_side told' c.in-Ok-true.field-0-test,
+        made_leaves d (IsInTheMaking (header.Room c.args.store)) c.args.log c.are_empty.new.log c.in-Err-create.log c.are_empty.ensures.still (c.in-Err-create.ensures.crash_err (c.are_empty.ensures.still.told told) (c.are_empty.ensures.still.seen_same ∙ c.in-Ok-true.ensures.empty told c.in-Ok-true.field-0-test)),
+      );
       still_side = c.are_empty.ensures.still_side;
       stopped = c.tell_trouble-in-Err-create.ensures;
     }))

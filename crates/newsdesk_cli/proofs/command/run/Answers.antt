@@ -30,3 +30,13 @@ pub returns-clause-links : goal.returns-clause-links
 returns-clause-links g c other =
     let some : job_of c.args.words.now ≡ Some c.in-Some.job = sym c.read_words.ensures ∙ c.in-Some.is in
     c.do_job.ensures.links (λ is. other (some ∙ ap Some is))
+
+pub returns-in_default-clause-receives : goal.returns-in_default-clause-receives
+returns-in_default-clause-receives g c told =
+    let none : job_of c.args.words.now ≡ None = sym c.read_words.ensures ∙ c.in_default.is in
+    rw none tt
+
+pub returns-clause-receives : goal.returns-clause-receives
+returns-clause-receives g c told =
+    let some : job_of c.args.words.now ≡ Some c.in-Some.job = sym c.read_words.ensures ∙ c.in-Some.is in
+    rw some (c.do_job.ensures.receives told)

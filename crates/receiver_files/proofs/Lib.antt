@@ -1,0 +1,4 @@
+pub mod Logs
+pub mod Openings
+pub mod Lefts
+pub mod Serving

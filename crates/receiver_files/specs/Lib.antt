@@ -1,0 +1,5 @@
+pub mod Refusals
+pub mod Log
+pub mod Opening
+pub mod LogLeft
+pub mod Receive
