@@ -10,7 +10,7 @@ use Rattle.line_run.specs.declared.ending.Ending.{Ending}
 use Rattle.line_run.specs.declared.ending.Ending.TheVariants as end
 use Rattle.news_room.specs.Steps.{entries}
 use Rattle.program_events.specs.Events.{MayFare}
-use Rattle.program_events.specs.Runs.{IsOneOf}
+use Rattle.program_events.specs.Leads.{IsOneOf}
 
 -- ---- lists of one
 

@@ -1,4 +1,5 @@
 -- Runs and crashes, one behind the other, are events of one world.
+use Rattle.std.specs.List.{slice_get}
 use Rattle.std.proofs.Common.{◌≡◌, ◌⊎◌, inl, inr, ℕ, List, [], ◌∷◌, ◌++◌, length, Option, Some, None, refl, sym, ap, ◌∙◌, subst, append-nil}
 use Rattle.news_types.specs.declared.query.Query.{Query}
 use Rattle.news_types.specs.declared.query.Query.TheVariants as query
@@ -7,9 +8,11 @@ use Rattle.news_types.specs.declared.entry.Entry.{Entry}
 use Rattle.news_types.specs.Names.{Bytes}
 use Rattle.news_types.specs.History.{History}
 use Rattle.news_types.specs.Frames.{Writer}
+use Rattle.feed_frames.specs.Writer.{the_writer}
 use Rattle.news_io.specs.Clock.{ClockMeaning}
 use Rattle.news_io.specs.Disk.{DiskMeaning}
 use Rattle.news_io.specs.Left.{IsLeft, Between}
+use Rattle.news_io.specs.Link.{LinkMeaning}
 use Rattle.news_io.specs.Sink.{SinkMeaning}
 use Rattle.news_io.specs.Source.{SourceMeaning}
 use Rattle.news_pair.specs.Keeper.{pair_of}
@@ -21,34 +24,39 @@ use Rattle.room_runs.specs.Wires.{IngestAnswered}
 use Rattle.store_files.specs.Files.{Files, OpenTo, OpenAlike, MayLeave, LeftSince}
 use Rattle.world_laws.specs.World.{World, Event, Reopens, opening, reopened, happens, run}
 use Rattle.world_laws.proofs.Headline.{headline_holds}
-use Rattle.newsdesk_cli.specs.Command.{HasGoneOn, HasAnswered, HasReported}
+use Rattle.newsdesk_cli.specs.Command.{HasGoneOn, HasAnswered, HasReported, HasDrained}
 use Rattle.newsdesk_cli.specs.FilesLeft.{NoneInDoubt, FilesLeft}
 use Rattle.program_events.specs.Events.{line_input}
 use Rattle.program_events.specs.Stories.{wire_input, item_input}
-use Rattle.program_events.specs.Runs.{LeadsOn}
-use Rattle.program_events.specs.Chains.{Did, Batch, Ingest, Feed, Queue, Check, Pack, Run, LeftByRun, MayCrash, IsLeftBy, AreLeft, FollowOneAnother, world, AreOfGoing, Answers, Reports, AreOfRun, AreOfRuns, ComesTo, ChainsAreEvents}
+use Rattle.program_events.specs.Leads.{IsBegunOf, LeadsOn}
+use Rattle.program_events.specs.Chains.{Did, Init, Batch, Ingest, Feed, Queue, Drain, Check, Pack, Run, LeftByRun, MayCrash, IsLeftBy, AreLeft, FollowOneAnother, world, AreOfGoing, Answers, Reports, Pushes, AreOfRun, AreOfRuns, ComesTo, ChainsAreEvents}
 use Rattle.program_events.proofs.Turns.{run_on}
+use Rattle.program_events.proofs.Draining.{drain_happened}
 use Rattle.program_events.proofs.Reports.{report_happened}
 use Rattle.program_events.proofs.Runs.{batch_events, wire_events, item_events}
-use Rattle.program_events.proofs.Stores.{one_history, alike, to_both, refused_keeps, opened_keeps, packed_within, counts_since}
+use Rattle.program_events.proofs.Stores.{one_history, alike, to_both, refused_keeps, init_keeps, init_time, opened_keeps, packed_within, counts_since}
 
 -- ---- a world behind an opening
 
 world_on : (write : Writer) (first second : List Event) → world write (first ++ second) ≡ run write second (world write first)
 world_on write first second = run_on write first second opening
 
-module _ {D S O C : Type 0} (disk : DiskMeaning D) (clock : ClockMeaning C) (source : SourceMeaning S) (sink : SinkMeaning O) (write : Writer) (store : Bytes) (long : length store ≡ 16) where
+module _ {D S O C L : Type 0} (disk : DiskMeaning D) (clock : ClockMeaning C) (source : SourceMeaning S) (sink : SinkMeaning O) (link : LinkMeaning L) (store : Bytes) (long : length store ≡ 16) where
+  -- publications are written as those of the store are
+  abbrev write : Writer
+  write = the_writer store
+
   abbrev Runs : Type 0
-  Runs = List (Run disk clock source sink)
+  Runs = List (Run disk clock source sink link)
 
   abbrev Comes : Runs → Files → Type 0
-  Comes runs files = ComesTo disk clock source sink write store runs files
+  Comes runs files = ComesTo disk clock source sink link write store runs files
 
   abbrev Left : Runs → Files → Type 0
-  Left runs files = AreLeft disk clock source sink store runs files
+  Left runs files = AreLeft disk clock source sink link store runs files
 
   -- an opening behind events, of which the headline holds
-  comes_to : (runs : Runs) (files : Files) (events : List Event) → AreOfRuns disk clock source sink write runs events → (which : Option ℕ) → OpenTo store files (happens write (world write events) (Reopens which)).server.list → Comes runs files
+  comes_to : (runs : Runs) (files : Files) (events : List Event) → AreOfRuns disk clock source sink link write runs events → (which : Option ℕ) → OpenTo store files (happens write (world write events) (Reopens which)).server.list → Comes runs files
   comes_to runs files events of_runs which opens = record {
     events = events;
     of_runs = of_runs;
@@ -65,18 +73,18 @@ module _ {D S O C : Type 0} (disk : DiskMeaning D) (clock : ClockMeaning C) (sou
   abbrev Happening : Type 1
   Happening = Writer → World → List Event → Type 0
 
-  abbrev Goes : Run disk clock source sink → Type 0
+  abbrev Goes : Run disk clock source sink link → Type 0
   Goes r = HasGoneOn disk r.log r.log' r.side r.side' r.status
 
   -- it has happened in each world that has the list, leads to the list that the files are left with, and is what its run did
-  record HasHappened (r : Run disk clock source sink) (a : Goes r) (Happened : Happening) : Type 0 where
+  record HasHappened (r : Run disk clock source sink link) (a : Goes r) (Happened : Happening) : Type 0 where
     shown : (w : World) → w.server.list ≡ a.opened.history → (events : List Event) × Happened write w events
     leads : (w : World) (events : List Event) → Happened write w events → LeadsOn write w (a.files r.tells r.tells_side).list (in_doubt (pair_of disk) a.after) events
-    of_run : (before events : List Event) → AreOfGoing disk clock source sink Happened r write before events → AreOfRun disk clock source sink write before r r.did events
+    of_run : (before events : List Event) → AreOfGoing disk clock source sink link Happened r write before events → AreOfRun disk clock source sink link write before r r.did events
 
   -- ---- what went on from files that come to the list of a world
 
-  module _ (r : Run disk clock source sink) (a : Goes r) (Happened : Happening) (hap : HasHappened r a Happened) (runs : Runs) (before : Comes runs (disk.seen r.log, disk.seen r.side)) where
+  module _ (r : Run disk clock source sink link) (a : Goes r) (Happened : Happening) (hap : HasHappened r a Happened) (runs : Runs) (before : Comes runs (disk.seen r.log, disk.seen r.side)) where
     abbrev start : World
     start = world write (before.events ++ Reopens before.which ∷ [])
 
@@ -92,27 +100,35 @@ module _ {D S O C : Type 0} (disk : DiskMeaning D) (clock : ClockMeaning C) (sou
     on : LeadsOn write start left.list (in_doubt (pair_of disk) a.after) did.0
     on = hap.leads start did.0 did.1
 
-    -- the first of its events, of which a crash has undone the rest
-    some_ran : (files : Files) (events undone : List Event) → did.0 ≡ events ++ undone → (r.crashed ≡ None → undone ≡ []) → (which : Option ℕ) → OpenTo store files (happens write (run write events start) (Reopens which)).server.list → Comes (r ∷ runs) files
-    some_ran files events undone all whole which opens =
+    -- the first of its events and what has begun of the next, where a crash has undone the rest
+    some_ran : (files : Files) (front begun undone : List Event) → did.0 ≡ front ++ undone → IsBegunOf undone begun → (r.crashed ≡ None → undone ≡ []) → (which : Option ℕ) → OpenTo store files (happens write (run write (front ++ begun) start) (Reopens which)).server.list → Comes (r ∷ runs) files
+    some_ran files front begun undone all is_begun whole which opens =
+        let events : List Event = front ++ begun in
         comes_to (r ∷ runs) files ((before.events ++ Reopens before.which ∷ []) ++ events) (
           before.events,
           before.of_runs,
-          hap.of_run before.events ((before.events ++ Reopens before.which ∷ []) ++ events) (inr (before.which, events, refl, record { undone = undone; whole = whole; happened = subst (Happened write start) all did.1 })),
+          hap.of_run before.events ((before.events ++ Reopens before.which ∷ []) ++ events) (
+              inr (before.which, events, refl, record { front = front; begun = begun; events_are = refl; undone = undone; is_begun = is_begun; whole = whole; happened = subst (Happened write start) all did.1 })
+              ),
         )
         which (subst (λ (v : World). OpenTo store files (happens write v (Reopens which)).server.list) (sym (world_on write (before.events ++ Reopens before.which ∷ []) events)) opens)
+
+    -- its list behind all of them
+    whole_list : (run write (did.0 ++ []) start).server.list ≡ left.list
+    whole_list = ap (λ (l : List Event). (run write l start).server.list) (append-nil did.0) ∙ on.lead.list
 
     -- all of them, where the files open to the last list, or to it and one in doubt
     all_ran : (files : Files) → IsLeft (OpenTo a.opened.store) left.list (in_doubt (pair_of disk) a.after) files → Comes (r ∷ runs) files
     all_ran files (inl opens) =
-        some_ran files did.0 [] (sym (append-nil did.0)) (λ none. refl) None
-        (subst (λ (h : History). OpenTo store files h) (sym on.lead.list) (subst (λ (s : Bytes). OpenTo s files left.list) (sym same.0) opens))
+        some_ran files did.0 [] [] (sym (append-nil did.0)) tt (λ none. refl) None
+        (subst (λ (h : History). OpenTo store files h) (sym whole_list) (subst (λ (s : Bytes). OpenTo s files left.list) (sym same.0) opens))
     all_ran files (inr one) =
         let e : Entry = one.0 in
         let at = on.doubt e one.1 in
-        some_ran files did.0 [] (sym (append-nil did.0)) (λ none. refl) (Some at.0)
-        (subst (λ (found : Option Entry). OpenTo store files (reopened (run write did.0 start).server found).list) (sym at.1)
-        (subst (λ (h : History). OpenTo store files (e ∷ h)) (sym on.lead.list) (subst (λ (s : Bytes). OpenTo s files (e ∷ left.list)) (sym same.0) one.2)))
+        let there : slice_get (run write (did.0 ++ []) start).server.doubt at.0 ≡ Some e = ap (λ (l : List Event). slice_get (run write l start).server.doubt at.0) (append-nil did.0) ∙ at.1 in
+        some_ran files did.0 [] [] (sym (append-nil did.0)) tt (λ none. refl) (Some at.0)
+        (subst (λ (found : Option Entry). OpenTo store files (reopened (run write (did.0 ++ []) start).server found).list) (sym there)
+        (subst (λ (h : History). OpenTo store files (e ∷ h)) (sym whole_list) (subst (λ (s : Bytes). OpenTo s files (e ∷ left.list)) (sym same.0) one.2)))
 
     -- the first few of them, where a crash has left the files so
     few_ran : (files : Files) → (r.crashed ≡ None → ⊥) → Between (OpenTo a.opened.store) a.opened.history left.list NoneInDoubt (in_doubt (pair_of disk) a.after) files → Comes (r ∷ runs) files
@@ -121,7 +137,7 @@ module _ {D S O C : Type 0} (disk : DiskMeaning D) (clock : ClockMeaning C) (sou
         by : IsLeft (OpenTo a.opened.store) b.part (λ e. ((b.part ≡ a.opened.history) × NoneInDoubt e) ⊎ ((b.part ≡ left.list) × in_doubt (pair_of disk) a.after e)) files → Comes (r ∷ runs) files
         by (inl opens) =
             let f = on.lead.each b.within.0 b.part b.behind.0 (b.behind.1 ∙ ap (λ (h : History). b.behind.0 ++ h) (sym same.1)) b.within.1 in
-            some_ran files f.front f.rest f.events_are (λ none. absurd (crash none)) None
+            some_ran files f.front f.begun f.rest f.events_are f.is_begun (λ none. absurd (crash none)) None
             (subst (λ (h : History). OpenTo store files h) (sym f.list) (subst (λ (s : Bytes). OpenTo s files b.part) (sym same.0) opens))
         by (inr one) = elim one.1 [
           | inl at_first ↦ absurd at_first.1
@@ -140,7 +156,7 @@ module _ {D S O C : Type 0} (disk : DiskMeaning D) (clock : ClockMeaning C) (sou
 
   -- ---- a run more, where all files before it come to lists of a world
 
-  module _ (r : Run disk clock source sink) (runs : Runs) (begins : (files : Files) → MayLeave disk r.log r.side files → Left runs files) (before : (files : Files) → Left runs files → Comes runs files) where
+  module _ (r : Run disk clock source sink link) (runs : Runs) (begins : (files : Files) → MayLeave disk r.log r.side files → Left runs files) (before : (files : Files) → Left runs files → Comes runs files) where
     from : Comes runs (disk.seen r.log, disk.seen r.side)
     from = before (disk.seen r.log, disk.seen r.side) (begins (disk.seen r.log, disk.seen r.side) (disk.leaves_seen r.log r.tells, disk.leaves_seen r.side r.tells_side))
 
@@ -148,10 +164,10 @@ module _ {D S O C : Type 0} (disk : DiskMeaning D) (clock : ClockMeaning C) (sou
     list = (world write (from.events ++ Reopens from.which ∷ [])).server.list
 
     abbrev TheDid : Type 0
-    TheDid = Did disk clock source sink r.log r.log' r.side r.side' r.input r.input' r.output r.output' r.clock_was r.clock_is r.status
+    TheDid = Did disk clock source sink link r.log r.log' r.side r.side' r.input r.input' r.output r.output' r.clock_was r.clock_is r.links r.links' r.status
 
     -- a run that is no event: the files open as some of those before it
-    as_before : ((write : Writer) (events : List Event) → AreOfRun disk clock source sink write events r r.did events) → (files : Files) → (others : Files) × MayLeave disk r.log r.side others × OpenAlike store others files → Comes (r ∷ runs) files
+    as_before : ((write : Writer) (events : List Event) → AreOfRun disk clock source sink link write events r r.did events) → (files : Files) → (others : Files) × MayLeave disk r.log r.side others × OpenAlike store others files → Comes (r ∷ runs) files
     as_before no_event files was =
         let c = before was.0 (begins was.0 was.1) in
         record {
@@ -182,11 +198,11 @@ module _ {D S O C : Type 0} (disk : DiskMeaning D) (clock : ClockMeaning C) (sou
 
     -- ---- what happened, by what the run did
 
-    is_of : (d : TheDid) → r.did ≡ d → (events these : List Event) → AreOfRun disk clock source sink write events r d these → AreOfRun disk clock source sink write events r r.did these
-    is_of d is events these x = subst (λ (d : TheDid). AreOfRun disk clock source sink write events r d these) (sym is) x
+    is_of : (d : TheDid) → r.did ≡ d → (events these : List Event) → AreOfRun disk clock source sink link write events r d these → AreOfRun disk clock source sink link write events r r.did these
+    is_of d is events these x = subst (λ (d : TheDid). AreOfRun disk clock source sink link write events r d these) (sym is) x
 
     lines_happened : (a : HasAnswered disk clock source sink r.log r.log' r.side r.side' r.input r.input' r.output r.output' r.clock_was r.clock_is r.status (λ room after b. InputAnswered (pair_of disk) clock source sink room after r.clock_was r.clock_is r.input r.input' r.output r.output' b 65 r.status))
-        → r.did ≡ Batch (inr a) → HasHappened r a.went (Answers disk clock source sink line_input r a)
+        → r.did ≡ Batch (inr a) → HasHappened r a.went (Answers disk clock source sink link line_input r a)
     lines_happened a is = record {
       shown = λ w same. batch_events disk clock source sink r.log r.log' r.side r.side' r.input r.input' r.output r.output' r.clock_was r.clock_is r.status a r.tells r.tells_side write w same;
       leads = λ w events x. x.leads;
@@ -194,7 +210,7 @@ module _ {D S O C : Type 0} (disk : DiskMeaning D) (clock : ClockMeaning C) (sou
     }
 
     wire_happened : (provider : Bytes) (a : HasAnswered disk clock source sink r.log r.log' r.side r.side' r.input r.input' r.output r.output' r.clock_was r.clock_is r.status (λ room after b. IngestAnswered (pair_of disk) clock source sink provider Text7901 room after r.clock_was r.clock_is r.input r.input' r.output r.output' b 65 r.status))
-        → r.did ≡ Ingest Text7901 provider (inr a) → HasHappened r a.went (Answers disk clock source sink (wire_input provider) r a)
+        → r.did ≡ Ingest Text7901 provider (inr a) → HasHappened r a.went (Answers disk clock source sink link (wire_input provider) r a)
     wire_happened provider a is = record {
       shown = λ w same. wire_events disk clock source sink r.log r.log' r.side r.side' r.input r.input' r.output r.output' r.clock_was r.clock_is r.status provider a r.tells r.tells_side write w same;
       leads = λ w events x. x.leads;
@@ -202,16 +218,26 @@ module _ {D S O C : Type 0} (disk : DiskMeaning D) (clock : ClockMeaning C) (sou
     }
 
     item_happened : (provider : Bytes) (a : HasAnswered disk clock source sink r.log r.log' r.side r.side' r.input r.input' r.output r.output' r.clock_was r.clock_is r.status (λ room after b. IngestAnswered (pair_of disk) clock source sink provider Ninjs room after r.clock_was r.clock_is r.input r.input' r.output r.output' b 65 r.status))
-        → r.did ≡ Ingest Ninjs provider (inr a) → HasHappened r a.went (Answers disk clock source sink (item_input provider) r a)
+        → r.did ≡ Ingest Ninjs provider (inr a) → HasHappened r a.went (Answers disk clock source sink link (item_input provider) r a)
     item_happened provider a is = record {
       shown = λ w same. item_events disk clock source sink r.log r.log' r.side r.side' r.input r.input' r.output r.output' r.clock_was r.clock_is r.status provider a r.tells r.tells_side write w same;
       leads = λ w events x. x.leads;
       of_run = is_of (Ingest Ninjs provider (inr a)) is;
     }
 
+    drain_ran : (a : HasDrained disk clock sink r.log r.log' r.side r.side' r.output r.output' r.clock_was r.clock_is r.status link r.links r.links') → r.did ≡ Drain (inr a) → HasHappened r a.went (Pushes disk clock source sink link r a)
+    drain_ran a is = record {
+      shown = λ w same.
+          let stores = one_history store a.went.opened.store long a.went.opened.long (disk.seen r.log, disk.seen r.side) list a.went.opened.history from.opens (a.went.opened.bytes r.tells r.tells_side) in
+          let did = drain_happened disk clock sink r.log r.log' r.side r.side' r.output r.output' r.clock_was r.clock_is r.status link r.links r.links' a r.tells r.tells_side w same in
+          (did.0, subst (λ (s : Bytes). Pushes disk clock source sink link r a (the_writer s) w did.0) (sym stores.0) did.1);
+      leads = λ w events x. x.leads;
+      of_run = is_of (Drain (inr a)) is;
+    }
+
     report_ran : (q : Query) (report : History → Bytes) (a : HasReported disk clock sink r.log r.log' r.side r.side' r.output r.output' r.clock_was r.clock_is r.status report) (d : TheDid) → r.did ≡ d
-        → ((before events : List Event) → AreOfGoing disk clock source sink (Reports disk clock source sink q report r a) r write before events → AreOfRun disk clock source sink write before r d events)
-        → HasHappened r a.went (Reports disk clock source sink q report r a)
+        → ((before events : List Event) → AreOfGoing disk clock source sink link (Reports disk clock source sink link q report r a) r write before events → AreOfRun disk clock source sink link write before r d events)
+        → HasHappened r a.went (Reports disk clock source sink link q report r a)
     report_ran q report a d is of = record {
       shown = λ w same. report_happened disk clock sink q report r.log r.log' r.side r.side' r.output r.output' r.clock_was r.clock_is r.status a r.tells r.tells_side write w same;
       leads = λ w events x. x.leads;
@@ -221,102 +247,116 @@ module _ {D S O C : Type 0} (disk : DiskMeaning D) (clock : ClockMeaning C) (sou
     -- ---- by what the run did
 
     left_now : (d : TheDid) → r.did ≡ d → (files : Files) → MayLeave disk r.log' r.side' files → Comes (r ∷ runs) files
+    left_now (Init owner did) is files may =
+        as_before (λ v events. subst (λ (d : TheDid). AreOfRun disk clock source sink link v events r d events) (sym is) refl) files
+        (init_keeps disk store long r.log r.side list r.tells r.tells_side from.opens sink owner r.log' r.side' r.output r.output' r.status did files (counts_since disk r.log r.log' (init_time disk store long r.log r.side list r.tells r.tells_side from.opens sink owner r.log' r.side' r.output r.output' r.status did) r.side' files may))
     left_now (Batch (inr a)) is files may = going_left a.went _ (lines_happened a is) files may
     left_now (Ingest Text7901 provider (inr a)) is files may = going_left a.went _ (wire_happened provider a is) files may
     left_now (Ingest Ninjs provider (inr a)) is files may = going_left a.went _ (item_happened provider a is) files may
     left_now (Batch (inl refused)) is files may =
-        as_before (λ v events. subst (λ (d : TheDid). AreOfRun disk clock source sink v events r d events) (sym is) refl) files
+        as_before (λ v events. subst (λ (d : TheDid). AreOfRun disk clock source sink link v events r d events) (sym is) refl) files
         (refused_keeps disk store long r.log r.side list r.tells r.tells_side from.opens r.log' r.side' refused.why.why refused.why.refused files (counts_since disk r.log r.log' (refused.why.refused.crash r.tells r.tells_side).later r.side' files may))
     left_now (Ingest Text7901 provider (inl refused)) is files may =
-        as_before (λ v events. subst (λ (d : TheDid). AreOfRun disk clock source sink v events r d events) (sym is) refl) files
+        as_before (λ v events. subst (λ (d : TheDid). AreOfRun disk clock source sink link v events r d events) (sym is) refl) files
         (refused_keeps disk store long r.log r.side list r.tells r.tells_side from.opens r.log' r.side' refused.why.why refused.why.refused files (counts_since disk r.log r.log' (refused.why.refused.crash r.tells r.tells_side).later r.side' files may))
     left_now (Ingest Ninjs provider (inl refused)) is files may =
-        as_before (λ v events. subst (λ (d : TheDid). AreOfRun disk clock source sink v events r d events) (sym is) refl) files
+        as_before (λ v events. subst (λ (d : TheDid). AreOfRun disk clock source sink link v events r d events) (sym is) refl) files
         (refused_keeps disk store long r.log r.side list r.tells r.tells_side from.opens r.log' r.side' refused.why.why refused.why.refused files (counts_since disk r.log r.log' (refused.why.refused.crash r.tells r.tells_side).later r.side' files may))
     left_now (Feed subscriber after (inr a)) is files may = going_left a.went _ (report_ran (query.Feed subscriber after) (feed_report_at subscriber after) a (Feed subscriber after (inr a)) is (λ before events x. x)) files may
     left_now (Queue (inr a)) is files may = going_left a.went _ (report_ran query.Queue queue_report_at a (Queue (inr a)) is (λ before events x. x)) files may
     left_now (Feed subscriber after (inl refused)) is files may =
-        as_before (λ v events. subst (λ (d : TheDid). AreOfRun disk clock source sink v events r d events) (sym is) refl) files
+        as_before (λ v events. subst (λ (d : TheDid). AreOfRun disk clock source sink link v events r d events) (sym is) refl) files
         (refused_keeps disk store long r.log r.side list r.tells r.tells_side from.opens r.log' r.side' refused.why.why refused.why.refused files (counts_since disk r.log r.log' (refused.why.refused.crash r.tells r.tells_side).later r.side' files may))
     left_now (Queue (inl refused)) is files may =
-        as_before (λ v events. subst (λ (d : TheDid). AreOfRun disk clock source sink v events r d events) (sym is) refl) files
+        as_before (λ v events. subst (λ (d : TheDid). AreOfRun disk clock source sink link v events r d events) (sym is) refl) files
         (refused_keeps disk store long r.log r.side list r.tells r.tells_side from.opens r.log' r.side' refused.why.why refused.why.refused files (counts_since disk r.log r.log' (refused.why.refused.crash r.tells r.tells_side).later r.side' files may))
+    left_now (Drain (inr a)) is files may = going_left a.went _ (drain_ran a is) files may
+    left_now (Drain (inl refused)) is files may =
+        as_before (λ v events. subst (λ (d : TheDid). AreOfRun disk clock source sink link v events r d events) (sym is) refl) files
+        (refused_keeps disk store long r.log r.side list r.tells r.tells_side from.opens r.log' r.side' refused.why.why.why refused.why.why.refused files (counts_since disk r.log r.log' (refused.why.why.refused.crash r.tells r.tells_side).later r.side' files may))
     left_now (Check (inl refused)) is files may =
-        as_before (λ v events. subst (λ (d : TheDid). AreOfRun disk clock source sink v events r d events) (sym is) refl) files
+        as_before (λ v events. subst (λ (d : TheDid). AreOfRun disk clock source sink link v events r d events) (sym is) refl) files
         (refused_keeps disk store long r.log r.side list r.tells r.tells_side from.opens r.log' r.side' refused.why refused.refused files (counts_since disk r.log r.log' (refused.refused.crash r.tells r.tells_side).later r.side' files may))
     left_now (Check (inr c)) is files may =
-        as_before (λ v events. subst (λ (d : TheDid). AreOfRun disk clock source sink v events r d events) (sym is) refl) files (
+        as_before (λ v events. subst (λ (d : TheDid). AreOfRun disk clock source sink link v events r d events) (sym is) refl) files (
           (disk.seen r.log, disk.seen r.side),
           (disk.leaves_seen r.log r.tells, disk.leaves_seen r.side r.tells_side),
           to_both store long (disk.seen r.log, disk.seen r.side) files list c.opened.store c.opened.long c.opened.history from.opens (c.opened.bytes r.tells r.tells_side) (c.files r.tells r.tells_side files (inr may.0, inr may.1)),
         )
     left_now (Pack (inl refused)) is files may =
-        as_before (λ v events. subst (λ (d : TheDid). AreOfRun disk clock source sink v events r d events) (sym is) refl) files
+        as_before (λ v events. subst (λ (d : TheDid). AreOfRun disk clock source sink link v events r d events) (sym is) refl) files
         (refused_keeps disk store long r.log r.side list r.tells r.tells_side from.opens r.log' r.side' refused.why refused.refused files (counts_since disk r.log r.log' (refused.refused.crash r.tells r.tells_side).later r.side' files may))
     left_now (Pack (inr (inl p))) is files may =
-        as_before (λ v events. subst (λ (d : TheDid). AreOfRun disk clock source sink v events r d events) (sym is) refl) files (
+        as_before (λ v events. subst (λ (d : TheDid). AreOfRun disk clock source sink link v events r d events) (sym is) refl) files (
           (disk.seen r.log, disk.seen r.side),
           (disk.leaves_seen r.log r.tells, disk.leaves_seen r.side r.tells_side),
           to_both store long (disk.seen r.log, disk.seen r.side) files list p.opened.store p.opened.long p.opened.history from.opens (p.opened.bytes r.tells r.tells_side) (p.files r.tells r.tells_side files (inr may.0, inr may.1)),
         )
     left_now (Pack (inr (inr p))) is files may =
-        as_before (λ v events. subst (λ (d : TheDid). AreOfRun disk clock source sink v events r d events) (sym is) refl) files (
+        as_before (λ v events. subst (λ (d : TheDid). AreOfRun disk clock source sink link v events r d events) (sym is) refl) files (
           (disk.seen r.log, disk.seen r.side),
           (disk.leaves_seen r.log r.tells, disk.leaves_seen r.side r.tells_side),
           to_both store long (disk.seen r.log, disk.seen r.side) files list p.opened.store p.opened.long p.opened.history from.opens (p.opened.bytes r.tells r.tells_side) (p.files r.tells r.tells_side files may),
         )
 
-    left_then : (d : TheDid) → r.did ≡ d → (r.crashed ≡ None → ⊥) → (files : Files) → LeftByRun disk clock source sink r d files → Comes (r ∷ runs) files
+    left_then : (d : TheDid) → r.did ≡ d → (r.crashed ≡ None → ⊥) → (files : Files) → LeftByRun disk clock source sink link r d files → Comes (r ∷ runs) files
+    left_then (Init owner did) is crash files may =
+        as_before (λ v events. subst (λ (d : TheDid). AreOfRun disk clock source sink link v events r d events) (sym is) refl) files
+        (init_keeps disk store long r.log r.side list r.tells r.tells_side from.opens sink owner r.log' r.side' r.output r.output' r.status did files may)
     left_then (Batch (inr a)) is crash files may = going_crashed a.went _ (lines_happened a is) files crash may
     left_then (Ingest Text7901 provider (inr a)) is crash files may = going_crashed a.went _ (wire_happened provider a is) files crash may
     left_then (Ingest Ninjs provider (inr a)) is crash files may = going_crashed a.went _ (item_happened provider a is) files crash may
     left_then (Batch (inl refused)) is crash files may =
-        as_before (λ v events. subst (λ (d : TheDid). AreOfRun disk clock source sink v events r d events) (sym is) refl) files
+        as_before (λ v events. subst (λ (d : TheDid). AreOfRun disk clock source sink link v events r d events) (sym is) refl) files
         (refused_keeps disk store long r.log r.side list r.tells r.tells_side from.opens r.log' r.side' refused.why.why refused.why.refused files may)
     left_then (Ingest Text7901 provider (inl refused)) is crash files may =
-        as_before (λ v events. subst (λ (d : TheDid). AreOfRun disk clock source sink v events r d events) (sym is) refl) files
+        as_before (λ v events. subst (λ (d : TheDid). AreOfRun disk clock source sink link v events r d events) (sym is) refl) files
         (refused_keeps disk store long r.log r.side list r.tells r.tells_side from.opens r.log' r.side' refused.why.why refused.why.refused files may)
     left_then (Ingest Ninjs provider (inl refused)) is crash files may =
-        as_before (λ v events. subst (λ (d : TheDid). AreOfRun disk clock source sink v events r d events) (sym is) refl) files
+        as_before (λ v events. subst (λ (d : TheDid). AreOfRun disk clock source sink link v events r d events) (sym is) refl) files
         (refused_keeps disk store long r.log r.side list r.tells r.tells_side from.opens r.log' r.side' refused.why.why refused.why.refused files may)
     left_then (Feed subscriber after (inr a)) is crash files may = going_crashed a.went _ (report_ran (query.Feed subscriber after) (feed_report_at subscriber after) a (Feed subscriber after (inr a)) is (λ before events x. x)) files crash may
     left_then (Queue (inr a)) is crash files may = going_crashed a.went _ (report_ran query.Queue queue_report_at a (Queue (inr a)) is (λ before events x. x)) files crash may
     left_then (Feed subscriber after (inl refused)) is crash files may =
-        as_before (λ v events. subst (λ (d : TheDid). AreOfRun disk clock source sink v events r d events) (sym is) refl) files
+        as_before (λ v events. subst (λ (d : TheDid). AreOfRun disk clock source sink link v events r d events) (sym is) refl) files
         (refused_keeps disk store long r.log r.side list r.tells r.tells_side from.opens r.log' r.side' refused.why.why refused.why.refused files may)
     left_then (Queue (inl refused)) is crash files may =
-        as_before (λ v events. subst (λ (d : TheDid). AreOfRun disk clock source sink v events r d events) (sym is) refl) files
+        as_before (λ v events. subst (λ (d : TheDid). AreOfRun disk clock source sink link v events r d events) (sym is) refl) files
         (refused_keeps disk store long r.log r.side list r.tells r.tells_side from.opens r.log' r.side' refused.why.why refused.why.refused files may)
+    left_then (Drain (inr a)) is crash files may = going_crashed a.went _ (drain_ran a is) files crash may
+    left_then (Drain (inl refused)) is crash files may =
+        as_before (λ v events. subst (λ (d : TheDid). AreOfRun disk clock source sink link v events r d events) (sym is) refl) files
+        (refused_keeps disk store long r.log r.side list r.tells r.tells_side from.opens r.log' r.side' refused.why.why.why refused.why.why.refused files may)
     left_then (Check (inl refused)) is crash files may =
-        as_before (λ v events. subst (λ (d : TheDid). AreOfRun disk clock source sink v events r d events) (sym is) refl) files
+        as_before (λ v events. subst (λ (d : TheDid). AreOfRun disk clock source sink link v events r d events) (sym is) refl) files
         (refused_keeps disk store long r.log r.side list r.tells r.tells_side from.opens r.log' r.side' refused.why refused.refused files may)
     left_then (Check (inr c)) is crash files may =
-        as_before (λ v events. subst (λ (d : TheDid). AreOfRun disk clock source sink v events r d events) (sym is) refl) files
+        as_before (λ v events. subst (λ (d : TheDid). AreOfRun disk clock source sink link v events r d events) (sym is) refl) files
         (opened_keeps disk store long r.log r.side list r.tells r.tells_side from.opens c.room c.opened files
         (subst (λ (d : D). disk.left_since d (disk.moment r.log) files.0) c.same may.0, subst (λ (d : D). disk.may_leave d files.1) c.same_side may.1))
     left_then (Pack (inl refused)) is crash files may =
-        as_before (λ v events. subst (λ (d : TheDid). AreOfRun disk clock source sink v events r d events) (sym is) refl) files
+        as_before (λ v events. subst (λ (d : TheDid). AreOfRun disk clock source sink link v events r d events) (sym is) refl) files
         (refused_keeps disk store long r.log r.side list r.tells r.tells_side from.opens r.log' r.side' refused.why refused.refused files may)
     left_then (Pack (inr (inl p))) is crash files may =
-        as_before (λ v events. subst (λ (d : TheDid). AreOfRun disk clock source sink v events r d events) (sym is) refl) files
+        as_before (λ v events. subst (λ (d : TheDid). AreOfRun disk clock source sink link v events r d events) (sym is) refl) files
         (elim may [
           | inl opening_it ↦ opened_keeps disk store long r.log r.side list r.tells r.tells_side from.opens p.room p.opened files opening_it
           | inr packing_it ↦ packed_within disk store long r.log r.side list r.tells r.tells_side from.opens p.room p.opened (log_disk p.pair) (side_disk p.pair) (p.packs r.tells r.tells_side).crash files packing_it
         ])
     left_then (Pack (inr (inr p))) is crash files may =
-        as_before (λ v events. subst (λ (d : TheDid). AreOfRun disk clock source sink v events r d events) (sym is) refl) files
+        as_before (λ v events. subst (λ (d : TheDid). AreOfRun disk clock source sink link v events r d events) (sym is) refl) files
         (elim may [
           | inl opening_it ↦ opened_keeps disk store long r.log r.side list r.tells r.tells_side from.opens p.room p.opened files opening_it
           | inr packing_it ↦ packed_within disk store long r.log r.side list r.tells r.tells_side from.opens p.room p.opened r.log' r.side' (p.packs_not r.tells r.tells_side).crash files packing_it
         ])
 
-    run_more : (files : Files) (crashed : Option Files) → r.crashed ≡ crashed → MayCrash disk clock source sink r crashed → IsLeftBy disk clock source sink r crashed files → Comes (r ∷ runs) files
+    run_more : (files : Files) (crashed : Option Files) → r.crashed ≡ crashed → MayCrash disk clock source sink link r crashed → IsLeftBy disk clock source sink link r crashed files → Comes (r ∷ runs) files
     run_more files None is may left = left_now r.did refl files left
     run_more files (Some found) is may left = subst (Comes (r ∷ runs)) (sym left) (left_then r.did refl (λ none. cc (sym is ∙ none)) found may)
 
-  runs_come : (runs : Runs) → FollowOneAnother disk clock source sink store runs → (files : Files) → Left runs files → Comes runs files
+  runs_come : (runs : Runs) → FollowOneAnother disk clock source sink link store runs → (files : Files) → Left runs files → Comes runs files
   runs_come [] follow files left = none_ran files left
   runs_come (r ∷ runs) follow files left = run_more r runs follow.0 (λ others there. runs_come runs follow.2 others there) files r.crashed refl follow.1 left
 
-pub chains_are_events : {D S O C : Type 0} (disk : DiskMeaning D) (clock : ClockMeaning C) (source : SourceMeaning S) (sink : SinkMeaning O) → ChainsAreEvents disk clock source sink
-chains_are_events disk clock source sink = λ store long runs follow write files left. runs_come disk clock source sink write store long runs follow files left
+pub chains_are_events : {D S O C L : Type 0} (disk : DiskMeaning D) (clock : ClockMeaning C) (source : SourceMeaning S) (sink : SinkMeaning O) (link : LinkMeaning L) → ChainsAreEvents disk clock source sink link
+chains_are_events disk clock source sink link = λ store long runs follow files left. runs_come disk clock source sink link store long runs follow files left

@@ -19,7 +19,8 @@ use Rattle.line_run.specs.declared.ending.Ending.TheVariants as end
 use Rattle.world_laws.specs.World.{World, Event, run}
 use Rattle.room_runs.specs.Lines.{LONGEST_INPUT}
 use Rattle.program_events.specs.Events.{Input, turn_events, turn_readings, world_texts}
-use Rattle.program_events.specs.Runs.{IsOneOf, Lead, Reads, AllHappened, SomeHappened, Happened, RunHappened}
+use Rattle.program_events.specs.Leads.{IsOneOf, Lead}
+use Rattle.program_events.specs.Runs.{Reads, AllHappened, SomeHappened, Happened, RunHappened}
 use Rattle.program_events.proofs.Members.{Means}
 use Rattle.program_events.proofs.Turns.{run_on, behind, turns_list, turns_move, turns_text, turns_took}
 use Rattle.program_events.proofs.Begun.{begun_fared}

@@ -10,7 +10,7 @@ use Rattle.line_run.specs.Turns.{Turn, after}
 use Rattle.world_laws.specs.World.{World, Event, run}
 use Rattle.news_room.specs.Steps.{entries}
 use Rattle.program_events.specs.Events.{Input, turn_events}
-use Rattle.program_events.specs.Runs.{Lead}
+use Rattle.program_events.specs.Leads.{StopsAt, IsBegunOf, Front, Lead}
 use Rattle.program_events.proofs.Members.{Means, put_list}
 use Rattle.program_events.proofs.Turns.{run_on}
 
@@ -35,7 +35,34 @@ lead_none write w = record {
       let long : length part ≡ length first + length w.server.list = ap length behind ∙ length-append first w.server.list in
       let whole : length w.server.list ≡ length later + length part = ap length within ∙ length-append later part in
       let none : first ≡ [] = none_before first w.server.list (omega (arith, long, whole, length-append first w.server.list)) in
-      record { front = []; rest = []; events_are = refl; list = sym (behind ∙ ap (λ (l : List Entry). l ++ w.server.list) none) };
+      record { front = []; rest = []; events_are = refl; begun = []; is_begun = tt; list = sym (behind ∙ ap (λ (l : List Entry). l ++ w.server.list) none) };
+}
+
+-- all of the events are a front
+whole_front : (write : Writer) (w : World) (events : List Event) (part : History) → (run write events w).server.list ≡ part → Front write w events part
+whole_front write w events part is = record {
+  front = events;
+  rest = [];
+  events_are = sym (append-nil events);
+  begun = [];
+  is_begun = tt;
+  list = subst (λ (l : List Event). (run write l w).server.list ≡ part) (sym (append-nil events)) is;
+}
+
+still_begun : (rest begun more : List Event) → IsBegunOf rest begun → IsBegunOf (rest ++ more) begun
+still_begun rest [] more b = tt
+still_begun [] (e ∷ begun) more b = absurd b
+still_begun (x ∷ rest) (e ∷ begun) more b = b
+
+-- so is a front of the first of them
+front_more : (write : Writer) (w : World) (events more : List Event) (part : History) → Front write w events part → Front write w (events ++ more) part
+front_more write w events more part f = record {
+  front = f.front;
+  rest = f.rest ++ more;
+  events_are = ap (λ (l : List Event). l ++ more) f.events_are ∙ append_assoc f.front f.rest more;
+  begun = f.begun;
+  is_begun = still_begun f.rest f.begun more f.is_begun;
+  list = f.list;
 }
 
 pub lead_more : (write : Writer) (w : World) (events more : List Event) (g : History) (o : Option Entry) → Lead write w events g → (run write (events ++ more) w).server.list ≡ entries o ++ g → Lead write w (events ++ more) (entries o ++ g)
@@ -43,10 +70,23 @@ lead_more write w events more g o lead is = record {
   list = is;
   each = λ later part first behind within.
       elim (split o g part later within) [
-        | inl whole ↦ record { front = events ++ more; rest = []; events_are = sym (append-nil (events ++ more)); list = is ∙ whole }
-        | inr old ↦
-            let f = lead.each old.0 part first behind old.1 in
-            record { front = f.front; rest = f.rest ++ more; events_are = ap (λ (l : List Event). l ++ more) f.events_are ∙ append_assoc f.front f.rest more; list = f.list }
+        | inl whole ↦ whole_front write w (events ++ more) part (is ∙ whole)
+        | inr old ↦ front_more write w events more part (lead.each old.0 part first behind old.1)
+      ];
+}
+
+-- one event more, which may stop behind the first of its two entries
+pub lead_two : (write : Writer) (w : World) (events : List Event) (whole stopped : Event) (g : History) (one two : Option Entry) → Lead write w events g → StopsAt whole stopped → (run write (events ++ stopped ∷ []) w).server.list ≡ entries one ++ g
+    → (run write (events ++ whole ∷ []) w).server.list ≡ entries two ++ (entries one ++ g) → Lead write w (events ++ whole ∷ []) (entries two ++ (entries one ++ g))
+lead_two write w events whole stopped g one two lead stops mid is = record {
+  list = is;
+  each = λ later part first behind within.
+      elim (split two (entries one ++ g) part later within) [
+        | inl all ↦ whole_front write w (events ++ whole ∷ []) part (is ∙ all)
+        | inr old ↦ elim (split one g part old.0 old.1) [
+          | inl half ↦ record { front = events; rest = whole ∷ []; events_are = refl; begun = stopped ∷ []; is_begun = (stops, refl); list = mid ∙ half }
+          | inr older ↦ front_more write w events (whole ∷ []) part (lead.each older.0 part first behind older.1)
+        ]
       ];
 }
 

@@ -6,6 +6,9 @@ pub mod Begun
 pub mod Leading
 pub mod Happening
 pub mod Reports
+pub mod Pushing
+pub mod Doubting
+pub mod Draining
 pub mod Runs
 pub mod Stores
 pub mod Chains

@@ -27,7 +27,8 @@ use Rattle.room_reports.specs.Reports.{IsReported}
 use Rattle.world_laws.specs.World.{World, Event, run}
 use Rattle.newsdesk_cli.specs.Command.{HasReported, IsReportOf}
 use Rattle.program_events.specs.Events.{question_events}
-use Rattle.program_events.specs.Runs.{IsOneOf, Lead, IsToldBehind, ReportHappened, ReportIsEvents}
+use Rattle.program_events.specs.Leads.{IsOneOf, Lead}
+use Rattle.program_events.specs.Runs.{IsToldBehind, ReportHappened, ReportIsEvents}
 use Rattle.program_events.proofs.Leading.{lead_none, lead_more}
 
 -- ---- the world behind a tick and a question
@@ -95,7 +96,7 @@ still_none : (D : Bytes → Type 0) (more : List Entry) (payload : Bytes) → st
 still_none D [] payload d = d
 still_none D (e ∷ es) payload d = absurd d
 
-tried_one : (next : Option Entry) (more : List Entry) (payload : Bytes) → IsTried (entries next) more payload → (e : Entry) × (next ≡ Some e) × IsEntry e × (payload ≡ entry_bytes e)
+pub tried_one : (next : Option Entry) (more : List Entry) (payload : Bytes) → IsTried (entries next) more payload → (e : Entry) × (next ≡ Some e) × IsEntry e × (payload ≡ entry_bytes e)
 tried_one next more payload t = let one = one_next next more t.0 t.1 t.2 in (t.0, one.1, t.3, t.4)
 
 -- where nothing was in doubt before: only the entry at which the keeper failed is

@@ -30,7 +30,7 @@ use Rattle.room_runs.specs.Batch.{InputAnswered}
 use Rattle.room_runs.specs.Wires.{wire_hand, of_incoming, IngestAnswered}
 use Rattle.newsdesk_cli.specs.Command.{HasAnswered, Does}
 use Rattle.command_words.specs.declared.words.Job.{Job}
-use Rattle.command_words.specs.declared.words.Job.TheVariants.{Batch, Ingest, Feed, Queue}
+use Rattle.command_words.specs.declared.words.Job.TheVariants.{Batch, Ingest, Feed, Queue, Drain}
 use Rattle.program_events.specs.Events.{Input, line_input}
 use Rattle.program_events.specs.Stories.{wire_input, item_input}
 use Rattle.program_events.specs.Runs.{Reads, RunHappened, AnswersAreEvents, AreEvents, RunsAreEvents}
@@ -38,6 +38,7 @@ use Rattle.program_events.proofs.Members.{Means}
 use Rattle.program_events.proofs.Lines.{line_means}
 use Rattle.program_events.proofs.Stories.{wire_means, item_means}
 use Rattle.program_events.proofs.Reports.{report_is_events}
+use Rattle.program_events.proofs.Draining.{drain_is_events}
 use Rattle.program_events.proofs.Happening.{list_of_run, run_stands, run_happens}
 
 module _ {D C S O A X : Type 0} (disk : DiskMeaning D) (clock : ClockMeaning C) (source : SourceMeaning S) (sink : SinkMeaning O) (hand : A → Hand (Pair D) C) (M : ℕ → Meaning Entry X) (input : Input X) (means : Means (M 65) input)
@@ -116,6 +117,7 @@ module _ {D S O C : Type 0} (disk : DiskMeaning D) (clock : ClockMeaning C) (sou
     are_events (Some (Ingest Ninjs provider)) (inr did) = item_events provider did
     are_events (Some (Feed subscriber after)) did = report_is_events disk clock sink (query.Feed subscriber after) (feed_report_at subscriber after) log log' side side' o o' c c' status did.1
     are_events (Some Queue) did = report_is_events disk clock sink query.Queue queue_report_at log log' side side' o o' c c' status did.1
+    are_events (Some Drain) did = drain_is_events disk clock sink log log' side side' o o' c c' status link l l' did.1
     are_events job did = tt
 
 pub runs_are_events : {D S O C L : Type 0} (disk : DiskMeaning D) (clock : ClockMeaning C) (source : SourceMeaning S) (sink : SinkMeaning O) (link : LinkMeaning L) → RunsAreEvents disk clock source sink link

@@ -9,10 +9,11 @@ use Rattle.news_io.specs.Disk.{DiskMeaning}
 use Rattle.news_io.specs.Sink.{SinkMeaning}
 use Rattle.news_journal.specs.Log.{room_head, header_bytes, opened}
 use Rattle.news_journal.specs.Read.{opened_closed}
+use Rattle.news_journal.specs.Opened.{Still}
 use Rattle.news_journal.specs.Stands.{listed}
 use Rattle.news_journal.specs.declared.header.Header.TheVariants as header
 use Rattle.news_pair.specs.Law.{opens_one, finds_one, opened_long, opens_beside}
-use Rattle.news_pair.specs.Pair.{side_head, packed_by, packed_in, PairOpens, PairFinds}
+use Rattle.news_pair.specs.Pair.{base_bytes, edition_of, side_head, packed_by, packed_in, PairOpens, PairFinds}
 use Rattle.news_pair.specs.Stands.{log_disk, side_disk}
 use Rattle.news_pair.specs.Steps.{Stays}
 use Rattle.news_pair.specs.Steps.Stays.{as_they_are, side_written, log_written}
@@ -25,6 +26,7 @@ use Rattle.store_files.specs.Files.{Files, OpenTo, OpenAlike, MayLeave, LeftSinc
 use Rattle.store_files.specs.Store.{IsRefused, IsOpenRoom}
 use Rattle.store_files.specs.declared.trouble.Trouble.{Trouble}
 use Rattle.store_files.proofs.Holding.{stays_keeps, room_holds}
+use Rattle.newsdesk_cli.specs.Command.{IsInit}
 use Rattle.program_events.specs.Chains.{LeftWithin, NewStoresAreEmpty}
 
 -- files open to one list, of one store
@@ -71,6 +73,36 @@ module _ {D : Type 0} (disk : DiskMeaning D) where
         by (inl was) = as_they_were store log side files (disk.only_now log files.0 was, (r.still tells').crash files.1 left.1)
         by (inr (inl may)) = as_they_were store log side files (may, (r.still tells').crash files.1 left.1)
         by (inr (inr still)) = as_seen files store long h opens (record { pair = still files.1 left.1 store long (payloads entry_bytes h) opens.pair; kept = opens.kept })
+
+    -- files that were looked at
+    pub looked_at : (log' side' : D) → Still disk log log' → Still disk side side' → (files : Files) → LeftSince disk log' side' (disk.moment log) files → IsAsBefore store log side files
+    looked_at log' side' still still' files left = by (still.time.nothing_else (disk.moment log) files.0 (omega arith) left.0)
+      where
+        by : disk.left_since log (disk.moment log) files.0 ⊎ disk.may_leave log files.0 → IsAsBefore store log side files
+        by (inl was) = as_they_were store log side files (disk.only_now log files.0 was, still'.crash files.1 left.1)
+        by (inr may) = as_they_were store log side files (may, still'.crash files.1 left.1)
+
+    -- and they are not empty
+    pub never_empty : disk.seen log ≡ [] → ⊥
+    never_empty none = omega (arith, opened_long (room_head (edition_of (disk.seen log)) (base_bytes (disk.seen log)) store) (disk.seen log) opens.pair.tail opens.pair.log_is, ap length none)
+
+    -- files that hold a list are never made a store anew
+    pub init_keeps : {O : Type 0} (sink : SinkMeaning O) (owner : Bytes) (log' side' : D) (o o' : O) (status : ℕ) → IsInit disk sink owner log log' side side' o o' status → (files : Files) → LeftSince disk log' side' (disk.moment log) files → IsAsBefore store log side files
+    init_keeps sink owner log' side' o o' status (inl taken) files left = looked_at log' side' taken.still taken.still_side files left
+    init_keeps sink owner log' side' o o' status (inr (inl unmade)) files left = elim (unmade.crash tells) [
+      | inl still ↦ looked_at log' side' still unmade.still_side files left
+      | inr made ↦ absurd (never_empty made.0)
+    ]
+    init_keeps sink owner log' side' o o' status (inr (inr made)) files left = absurd (never_empty (made.empty tells))
+
+    -- and time goes on
+    pub init_time : {O : Type 0} (sink : SinkMeaning O) (owner : Bytes) (log' side' : D) (o o' : O) (status : ℕ) → IsInit disk sink owner log log' side side' o o' status → disk.moment log ≤ disk.moment log'
+    init_time sink owner log' side' o o' status (inl taken) = taken.still.time.later
+    init_time sink owner log' side' o o' status (inr (inl unmade)) = elim (unmade.crash tells) [
+      | inl still ↦ still.time.later
+      | inr made ↦ absurd (never_empty made.0)
+    ]
+    init_time sink owner log' side' o o' status (inr (inr made)) = absurd (never_empty (made.empty tells))
 
     -- a room's files while they were opened
     pub opened_keeps : (room : Room (Pair D)) (o : IsOpenRoom disk log side room) (files : Files) → LeftSince disk (log_disk room.keeper) (side_disk room.keeper) (disk.moment log) files → IsAsBefore store log side files

@@ -1,5 +1,5 @@
 -- Runs of the program and crashes, one behind the other, as one list of events from the opening on.
-use Rattle.std.specs.Prelude.{◌≡◌, ◌⊎◌, ℕ, List, [], ◌∷◌, ◌++◌, length, Option, Some, None}
+use Rattle.std.specs.Prelude.{◌≡◌, ◌⊎◌, ℕ, List, [], ◌∷◌, ◌++◌, length, map, Option, Some, None}
 use Rattle.std.proofs.Common.{inl, inr}
 use Rattle.news_types.specs.declared.query.Query.{Query}
 use Rattle.news_types.specs.declared.query.Query.TheVariants as query
@@ -10,9 +10,11 @@ use Rattle.news_types.specs.Doubt.{payloads}
 use Rattle.news_types.specs.Names.{Bytes}
 use Rattle.news_types.specs.Frames.{Writer}
 use Rattle.news_types.specs.History.{History}
+use Rattle.feed_frames.specs.Writer.{the_writer}
 use Rattle.entry_codec.specs.Spelling.{entry_bytes}
 use Rattle.news_io.specs.Clock.{ClockMeaning}
 use Rattle.news_io.specs.Disk.{DiskMeaning}
+use Rattle.news_io.specs.Link.{LinkMeaning}
 use Rattle.news_io.specs.Sink.{SinkMeaning}
 use Rattle.news_io.specs.Source.{SourceMeaning}
 use Rattle.news_pair.specs.declared.pair.Pair.{Pair}
@@ -26,10 +28,12 @@ use Rattle.room_reports.specs.Reports.{feed_report_at, queue_report_at}
 use Rattle.store_files.specs.Files.{Files, OpenTo, MayLeave, LeftSince}
 use Rattle.world_laws.specs.Headline.{Headline}
 use Rattle.world_laws.specs.World.{World, Event, Reopens, happens, after}
-use Rattle.newsdesk_cli.specs.Command.{HasAnswered, HasReported, IsBatch, IsIngest, IsReportOf, IsCheck, IsPack, IsMade}
+use Rattle.newsdesk_cli.specs.Command.{HasAnswered, HasReported, IsBatch, IsIngest, IsReportOf, HasDrained, IsDrain, IsCheck, IsPack, IsInit, IsMade}
 use Rattle.program_events.specs.Events.{Input, line_input}
 use Rattle.program_events.specs.Stories.{wire_input, item_input}
+use Rattle.program_events.specs.Leads.{IsBegunOf}
 use Rattle.program_events.specs.Runs.{RunHappened, ReportHappened}
+use Rattle.program_events.specs.Drains.{DrainHappened}
 
 -- ---- a crash within packing
 
@@ -46,15 +50,17 @@ world write events = after (happens write) events
 
 -- ---- a run
 
-module _ {D S O C : Type 0} (disk : DiskMeaning D) (clock : ClockMeaning C) (source : SourceMeaning S) (sink : SinkMeaning O) where
+module _ {D S O C L : Type 0} (disk : DiskMeaning D) (clock : ClockMeaning C) (source : SourceMeaning S) (sink : SinkMeaning O) (link : LinkMeaning L) where
   -- what a command did, by its contract
-  pub data Did (log log' side side' : D) (i i' : S) (o o' : O) (c c' : C) (status : ℕ) : Type 0 where
-    Batch : IsBatch disk clock source sink log log' side side' i i' o o' c c' status → Did log log' side side' i i' o o' c c' status
-    Ingest : (format : Format) (provider : Bytes) → IsIngest disk clock source sink log log' side side' i i' o o' c c' status format provider → Did log log' side side' i i' o o' c c' status
-    Feed : (subscriber : Bytes) (after : ℕ) → IsReportOf disk clock sink log log' side side' o o' c c' status (feed_report_at subscriber after) → Did log log' side side' i i' o o' c c' status
-    Queue : IsReportOf disk clock sink log log' side side' o o' c c' status queue_report_at → Did log log' side side' i i' o o' c c' status
-    Check : IsCheck disk sink log log' side side' o o' status → Did log log' side side' i i' o o' c c' status
-    Pack : IsPack disk sink log log' side side' o o' status → Did log log' side side' i i' o o' c c' status
+  pub data Did (log log' side side' : D) (i i' : S) (o o' : O) (c c' : C) (l l' : List L) (status : ℕ) : Type 0 where
+    Init : (owner : Bytes) → IsInit disk sink owner log log' side side' o o' status → Did log log' side side' i i' o o' c c' l l' status
+    Batch : IsBatch disk clock source sink log log' side side' i i' o o' c c' status → Did log log' side side' i i' o o' c c' l l' status
+    Ingest : (format : Format) (provider : Bytes) → IsIngest disk clock source sink log log' side side' i i' o o' c c' status format provider → Did log log' side side' i i' o o' c c' l l' status
+    Feed : (subscriber : Bytes) (after : ℕ) → IsReportOf disk clock sink log log' side side' o o' c c' status (feed_report_at subscriber after) → Did log log' side side' i i' o o' c c' l l' status
+    Queue : IsReportOf disk clock sink log log' side side' o o' c c' status queue_report_at → Did log log' side side' i i' o o' c c' l l' status
+    Drain : IsDrain disk clock sink log log' side side' o o' c c' status link l l' → Did log log' side side' i i' o o' c c' l l' status
+    Check : IsCheck disk sink log log' side side' o o' status → Did log log' side side' i i' o o' c c' l l' status
+    Pack : IsPack disk sink log log' side side' o o' status → Did log log' side side' i i' o o' c c' l l' status
 
   -- a run on files that tell what they hold; and what a crash left of them, where one came within the run or behind it
   pub record Run : Type 0 where
@@ -68,10 +74,12 @@ module _ {D S O C : Type 0} (disk : DiskMeaning D) (clock : ClockMeaning C) (sou
     pub output' : O
     pub clock_was : C
     pub clock_is : C
+    pub links : List L
+    pub links' : List L
     pub status : ℕ
     pub tells : disk.tells log
     pub tells_side : disk.tells side
-    pub did : Did log log' side side' input input' output output' clock_was clock_is status
+    pub did : Did log log' side side' input input' output output' clock_was clock_is links links' status
     pub crashed : Option Files
 
   -- what a crash may leave while a list is packed, from the files' opening on
@@ -85,11 +93,13 @@ module _ {D S O C : Type 0} (disk : DiskMeaning D) (clock : ClockMeaning C) (sou
       ⊎ LeftWithin disk p.opened.store (payloads entry_bytes p.opened.history) (log_disk p.room.keeper) (side_disk p.room.keeper) (p.packs_not r.tells r.tells_side).crash files
 
   -- what a crash may leave at some moment since the run began
-  abbrev pub LeftByRun : (r : Run) → Did r.log r.log' r.side r.side' r.input r.input' r.output r.output' r.clock_was r.clock_is r.status → Files → Type 0
+  abbrev pub LeftByRun : (r : Run) → Did r.log r.log' r.side r.side' r.input r.input' r.output r.output' r.clock_was r.clock_is r.links r.links' r.status → Files → Type 0
+  LeftByRun r (Init owner did) files = LeftSince disk r.log' r.side' (disk.moment r.log) files
   LeftByRun r (Batch did) files = LeftSince disk r.log' r.side' (disk.moment r.log) files
   LeftByRun r (Ingest format provider did) files = LeftSince disk r.log' r.side' (disk.moment r.log) files
   LeftByRun r (Feed subscriber after did) files = LeftSince disk r.log' r.side' (disk.moment r.log) files
   LeftByRun r (Queue did) files = LeftSince disk r.log' r.side' (disk.moment r.log) files
+  LeftByRun r (Drain did) files = LeftSince disk r.log' r.side' (disk.moment r.log) files
   LeftByRun r (Check did) files = LeftSince disk r.log' r.side' (disk.moment r.log) files
   LeftByRun r (Pack did) files = LeftByPacking r did files
 
@@ -114,12 +124,16 @@ module _ {D S O C : Type 0} (disk : DiskMeaning D) (clock : ClockMeaning C) (sou
 
   -- ---- its events
 
-  -- what went on from opened files, from a world on: these events, and others that a crash has undone
+  -- what went on from opened files, from a world on: these events; or the first of them and what had begun of the next, where a crash has undone the rest
   module _ (Happened : Writer → World → List Event → Type 0) (r : Run) where
     pub record RunDid (write : Writer) (w : World) (events : List Event) : Type 0 where
+      pub front : List Event
+      pub begun : List Event
+      pub events_are : events ≡ front ++ begun
       pub undone : List Event
+      pub is_begun : IsBegunOf undone begun
       pub whole : r.crashed ≡ None → undone ≡ []
-      pub happened : Happened write w (events ++ undone)
+      pub happened : Happened write w (front ++ undone)
 
     -- the files were opened as one of the doubt or none says, and then the run did what it did; or a crash has left them as they were
     abbrev pub AreOfGoing : Writer → List Event → List Event → Type 0
@@ -137,8 +151,13 @@ module _ {D S O C : Type 0} (disk : DiskMeaning D) (clock : ClockMeaning C) (sou
   Reports question report r did write w events =
       ReportHappened clock sink question report write w r.output r.output' r.clock_was r.clock_is r.status (did.went.files r.tells r.tells_side).list (in_doubt (pair_of disk) did.went.after) events
 
+  -- what was due was pushed, as in the world
+  abbrev pub Pushes : (r : Run) → HasDrained disk clock sink r.log r.log' r.side r.side' r.output r.output' r.clock_was r.clock_is r.status link r.links r.links' → Writer → World → List Event → Type 0
+  Pushes r did write w events =
+      DrainHappened write w (map link.serves r.links) did.drained.drains (did.went.files r.tells r.tells_side).list (in_doubt (pair_of disk) did.went.after) events
+
   -- any other run is no event
-  abbrev pub AreOfRun : Writer → List Event → (r : Run) → Did r.log r.log' r.side r.side' r.input r.input' r.output r.output' r.clock_was r.clock_is r.status → List Event → Type 0
+  abbrev pub AreOfRun : Writer → List Event → (r : Run) → Did r.log r.log' r.side r.side' r.input r.input' r.output r.output' r.clock_was r.clock_is r.links r.links' r.status → List Event → Type 0
   AreOfRun write before r (Batch (inr did)) events = AreOfGoing (Answers line_input r did) r write before events
   AreOfRun write before r (Batch (inl refused)) events = events ≡ before
   AreOfRun write before r (Ingest Text7901 provider (inr did)) events = AreOfGoing (Answers (wire_input provider) r did) r write before events
@@ -149,6 +168,9 @@ module _ {D S O C : Type 0} (disk : DiskMeaning D) (clock : ClockMeaning C) (sou
   AreOfRun write before r (Feed subscriber after (inl refused)) events = events ≡ before
   AreOfRun write before r (Queue (inr did)) events = AreOfGoing (Reports query.Queue queue_report_at r did) r write before events
   AreOfRun write before r (Queue (inl refused)) events = events ≡ before
+  AreOfRun write before r (Drain (inr did)) events = AreOfGoing (Pushes r did) r write before events
+  AreOfRun write before r (Drain (inl refused)) events = events ≡ before
+  AreOfRun write before r (Init owner did) events = events ≡ before
   AreOfRun write before r (Check did) events = events ≡ before
   AreOfRun write before r (Pack did) events = events ≡ before
 
@@ -165,9 +187,10 @@ module _ {D S O C : Type 0} (disk : DiskMeaning D) (clock : ClockMeaning C) (sou
     pub opens : OpenTo store files (world write (events ++ Reopens which ∷ [])).server.list
     pub headline : Headline write (world write (events ++ Reopens which ∷ []))
 
-  -- a list of runs and crashes from a new store on is a list of events, and what it leaves is the list of a world of which the headline holds
+  -- A list of runs and crashes from a new store on is a list of events, and what it leaves is the list of a world of which the headline
+  -- holds. Publications are written as those of this store are
   abbrev pub ChainsAreEvents : Type 0
-  ChainsAreEvents = (store : Bytes) → length store ≡ 16 → (runs : List Run) → FollowOneAnother store runs → (write : Writer) (files : Files) → AreLeft store runs files → ComesTo write store runs files
+  ChainsAreEvents = (store : Bytes) → length store ≡ 16 → (runs : List Run) → FollowOneAnother store runs → (files : Files) → AreLeft store runs files → ComesTo (the_writer store) store runs files
 
 -- the files that `init` has made open to the empty list, whatever a crash leaves of them
 abbrev pub NewStoresAreEmpty : {D O : Type 0} → DiskMeaning D → SinkMeaning O → Type 0

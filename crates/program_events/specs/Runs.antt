@@ -1,7 +1,6 @@
 -- A run over the members of an input as events of a world.
-use Rattle.std.specs.Prelude.{◌≡◌, ◌<◌, ℕ, List, [], ◌∷◌, ◌++◌, length, take, Option, Some, Result, Ok, Err}
+use Rattle.std.specs.Prelude.{◌≡◌, ◌<◌, ℕ, List, [], ◌∷◌, ◌++◌, length, map, take, Option, Some, Result, Ok, Err}
 use Rattle.std.proofs.Common.{inl, inr}
-use Rattle.std.specs.List.{slice_get}
 use Rattle.news_types.specs.declared.entry.Entry.{Entry}
 use Rattle.news_types.specs.declared.words.Format.TheVariants.{Ninjs, Text7901}
 use Rattle.news_types.specs.Books.{Book}
@@ -11,6 +10,7 @@ use Rattle.news_types.specs.declared.query.Query.TheVariants as query
 use Rattle.news_types.specs.Calls.{Fate, IsKept, IsFull, IsFailed, IsStarved}
 use Rattle.news_types.specs.Names.{Bytes}
 use Rattle.news_types.specs.Frames.{Writer}
+use Rattle.feed_frames.specs.Writer.{the_writer}
 use Rattle.news_io.specs.Clock.{ClockMeaning, Gave}
 use Rattle.news_io.specs.Disk.{DiskMeaning}
 use Rattle.news_io.specs.Link.{LinkMeaning}
@@ -29,34 +29,15 @@ use Rattle.news_pair.specs.declared.pair.Pair.{Pair}
 use Rattle.news_room.specs.declared.room.Room.{Room}
 use Rattle.news_room.specs.Stands.{in_doubt}
 use Rattle.world_laws.specs.World.{World, Event, run}
-use Rattle.newsdesk_cli.specs.Command.{HasGoneOn, HasAnswered, IsReportOf, Does}
+use Rattle.newsdesk_cli.specs.Command.{HasGoneOn, HasAnswered, IsReportOf, IsDrain, Does}
 use Rattle.room_reports.specs.Reports.{feed_report_at, queue_report_at, IsWrittenOut, IsStopped}
 use Rattle.room_runs.specs.Lines.{LONGEST_INPUT}
 use Rattle.command_words.specs.declared.words.Job.{Job}
-use Rattle.command_words.specs.declared.words.Job.TheVariants.{Batch, Ingest, Feed, Queue}
+use Rattle.command_words.specs.declared.words.Job.TheVariants.{Batch, Ingest, Feed, Queue, Drain}
+use Rattle.program_events.specs.Drains.{DrainHappened}
+use Rattle.program_events.specs.Leads.{LeadsOn}
 use Rattle.program_events.specs.Stories.{wire_input, item_input}
 use Rattle.program_events.specs.Events.{Input, line_input, turn_events, turn_readings, world_texts, AreBegun, question_events}
-
--- the entry is one of those in doubt
-abbrev pub IsOneOf : List Entry → Entry → Type 0
-IsOneOf doubt e = (i : ℕ) × (slice_get doubt i ≡ Some e)
-
--- the first of these events lead to the list
-pub record Front (write : Writer) (w : World) (events : List Event) (h : History) : Type 0 where
-  pub front : List Event
-  pub rest : List Event
-  pub events_are : events ≡ front ++ rest
-  pub list : (run write front w).server.list ≡ h
-
--- these events lead from the world's list to this one, and the first of them to each list between
-pub record Lead (write : Writer) (w : World) (events : List Event) (g : History) : Type 0 where
-  pub list : (run write events w).server.list ≡ g
-  pub each : (later part first : List Entry) → part ≡ first ++ w.server.list → g ≡ later ++ part → Front write w events part
-
--- they lead from the world's list to this one, and whatever is in doubt then is in doubt in the world
-pub record LeadsOn (write : Writer) (w : World) (g : History) (D : Entry → Type 0) (events : List Event) : Type 0 where
-  pub lead : Lead write w events g
-  pub doubt : (e : Entry) → D e → IsOneOf (run write events w).server.doubt e
 
 -- ---- the events of members, with the readings that were taken, and what was written of their answers
 
@@ -141,6 +122,13 @@ module _ {D O C : Type 0} (disk : DiskMeaning D) (clock : ClockMeaning C) (sink 
   ReportIsEvents question report (inl refused) = Unit {0}
   ReportIsEvents question report (inr did) = GoesAsEvents disk log log' side side' status did.went (λ write w g D events. ReportHappened clock sink question report write w o o' c c' status g D events)
 
+module _ {D O C L : Type 0} (disk : DiskMeaning D) (clock : ClockMeaning C) (sink : SinkMeaning O) (log log' side side' : D) (o o' : O) (c c' : C) (status : ℕ) (link : LinkMeaning L) (l l' : List L) where
+  -- so is what was pushed, where publications are written as those of this store are
+  abbrev pub DrainIsEvents : IsDrain disk clock sink log log' side side' o o' c c' status link l l' → Type 0
+  DrainIsEvents (inl refused) = Unit {0}
+  DrainIsEvents (inr did) = (tells : disk.tells log) → (tells' : disk.tells side) → (w : World) → w.server.list ≡ did.went.opened.history
+      → (events : List Event) × DrainHappened (the_writer did.went.opened.store) w (map link.serves l) did.drained.drains (did.went.files tells tells').list (in_doubt (pair_of disk) did.went.after) events
+
 module _ {D S O C : Type 0} (disk : DiskMeaning D) (clock : ClockMeaning C) (source : SourceMeaning S) (sink : SinkMeaning O)
     (log log' side side' : D) (i i' : S) (o o' : O) (c c' : C) (status : ℕ) where
   -- so is what an input was answered
@@ -148,13 +136,14 @@ module _ {D S O C : Type 0} (disk : DiskMeaning D) (clock : ClockMeaning C) (sou
   AnswersAreEvents input did = GoesAsEvents disk log log' side side' status did.went (λ write w g D events. RunHappened input clock source sink write w i i' o o' c c' status g D events)
 
   module _ {L : Type 0} (link : LinkMeaning L) (l l' : List L) where
-    -- what the words do is events. What is pushed is events turn by turn, as its contract says; all else is no event
+    -- what the words do is events; all else is no event
     abbrev pub AreEvents : (job : Option Job) → Does disk clock source sink link log log' side side' i i' o o' c c' l l' status job → Type 0
     AreEvents (Some Batch) (inr did) = AnswersAreEvents line_input did
     AreEvents (Some (Ingest Text7901 provider)) (inr did) = AnswersAreEvents (wire_input provider) did
     AreEvents (Some (Ingest Ninjs provider)) (inr did) = AnswersAreEvents (item_input provider) did
     AreEvents (Some (Feed subscriber after)) did = ReportIsEvents disk clock sink log log' side side' o o' c c' status (query.Feed subscriber after) (feed_report_at subscriber after) did.1
     AreEvents (Some Queue) did = ReportIsEvents disk clock sink log log' side side' o o' c c' status query.Queue queue_report_at did.1
+    AreEvents (Some Drain) did = DrainIsEvents disk clock sink log log' side side' o o' c c' status link l l' did.1
     AreEvents job did = Unit {0}
 
     -- what the words do, and that it is events of the world

@@ -10,3 +10,6 @@ returns-clause-serves g c told told' store h long opens = c.run.ensures.serves t
 
 pub returns-clause-links : goal.returns-clause-links
 returns-clause-links g c other = c.run.ensures.links other
+
+pub returns-clause-receives : goal.returns-clause-receives
+returns-clause-receives g c told = c.run.ensures.receives told
