@@ -90,6 +90,8 @@ impl<T: StandsFor + Drop> Shared<T> {
         // The value stood for these, and the numbers beside the call are its own.
         ensures lent { (c : Call) × (calls result ≡ calls pass ++ c ∷ [])
             × Lent T.stands T.faults T.used (T.stands (start_of self.now)) (front result) c }
+        // The value with which the lock was made stood for something.
+        ensures stood { (b : Book) × T.stands (start_of self.now) b }
     {
         let (mut seat, mut room) = self.enter(rt, pass);
         let from = room.count();

@@ -92,3 +92,6 @@ returns-clause-lent g c =
       turn_lent g.T.StandsFor.stands g.T.StandsFor.faults g.T.StandsFor.used (g.T.StandsFor.stands c.args.self.now.table.shared.key.value) front k.0 _ c.enter-seat.result.1 c.turn.new.room b a k.1.0 is
           c.enter-seat.ensures.room.0 k.1.1 (ap g.T.StandsFor.faults c.of-found.ensures) (ap g.T.StandsFor.used c.of-found.ensures) refl refl,
     )
+
+pub returns-clause-stood : goal.returns-clause-stood
+returns-clause-stood g c = c.enter-seat.ensures.room.0.witness

@@ -1,0 +1,4 @@
+pub mod Steps
+pub mod Exchanges
+pub mod Rounds
+pub mod Tallies
