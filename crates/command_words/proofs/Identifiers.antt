@@ -1,10 +1,9 @@
 -- What the words of a command line are read as.
-use Rattle.std.proofs.Common.{◌≡◌, ◌∙◌, ◌≤◌, ◌<◌, ℕ, ◌-◌, Bool, false, ◌||◌, if◌then◌else◌, List, [], ◌∷◌, get_or, length, take, drop, Option, Some, None, refl, sym, ap, arith}
+use Rattle.std.proofs.Common.{◌≡◌, ◌∙◌, ◌≤◌, ◌<◌, ℕ, ◌-◌, Bool, false, ◌||◌, List, [], ◌∷◌, get_or, length, take, drop, Option, Some, None, refl, sym, ap, arith}
 use Rattle.std.proofs.lemmas.List.{take_all}
-use Rattle.std.specs.Prelude.{codes}
 use Rattle.std.specs.Option.{option_map}
 use Rattle.news_types.specs.Names.{Bytes, same}
-use Rattle.command_words.specs.Words.{long_job, wide_job, job_by, job_of, drain_job, names}
+use Rattle.command_words.specs.Words.{long_job, wide_job, job_by, names}
 use Rattle.command_words.specs.declared.words.Job.TheVariants.{Init}
 
 -- an identifier that is none asks for nothing
@@ -24,14 +23,6 @@ by_two verb (a ∷ b ∷ []) low high first second first_is second_is = ap (λ (
 by_two verb (a ∷ b ∷ c ∷ more) low high first second first_is second_is = absurd (omega (arith, high))
 by_two verb (a ∷ []) low high first second first_is second_is = absurd (omega (arith, low))
 by_two verb [] low high first second first_is second_is = absurd (omega (arith, low))
-
--- words of another verb
-pub job_on : (words : List Bytes) (verb : Bytes) → 2 ≤ length words → verb ≡ get_or words 0 verb → same verb (codes "drain") ≡ false → job_by verb (take (length words - 2) (drop 2 words)) ≡ job_of words
-job_on (a ∷ b ∷ more) verb low is not =
-    ap (job_by verb) (take_all (length (a ∷ b ∷ more) - 2) more (omega arith)) ∙ sym (ap (λ (t : Bool). if t then drain_job more else job_by verb more) not)
-    ∙ ap (λ (v : Bytes). if same v (codes "drain") then drain_job more else job_by v more) is
-job_on (a ∷ []) verb low is not = absurd (omega (arith, low))
-job_on [] verb low is not = absurd (omega (arith, low))
 
 -- a name that the first pair has not
 pub names_on : (pairs : List Bytes) (name other : Bytes) → 2 ≤ length pairs → other ≡ get_or pairs 0 other → same other name ≡ false → names (take (length pairs - 2) (drop 2 pairs)) name ≡ names pairs name

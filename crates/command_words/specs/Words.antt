@@ -1,5 +1,5 @@
 -- Which words are a command of the program.
-use Rattle.std.specs.Prelude.{ℕ, Bool, true, false, not, ◌==◌, ◌&&◌, ◌||◌, nat_lt, List, [], ◌∷◌, length, slice_index, codes, if◌then◌else◌, Option, Some, None}
+use Rattle.std.specs.Prelude.{ℕ, Bool, true, false, not, ◌==◌, ◌&&◌, ◌||◌, nat_le, nat_lt, List, [], ◌∷◌, length, slice_index, codes, if◌then◌else◌, Option, Some, None}
 use Rattle.std.specs.Char.{is_ascii_digit}
 use Rattle.std.specs.List.{list_all}
 use Rattle.std.specs.Str.Parse.{digits_value}
@@ -9,7 +9,7 @@ use Rattle.news_types.specs.declared.words.Format.{Format}
 use Rattle.news_types.specs.declared.words.Format.TheVariants.{Ninjs, Text7901}
 use Rattle.news_types.specs.Names.{Bytes, same, is_name}
 use Rattle.command_words.specs.declared.words.Job.{Job}
-use Rattle.command_words.specs.declared.words.Job.TheVariants.{Init, Batch, Ingest, Feed, Queue, Drain, Receive, Check, Pack}
+use Rattle.command_words.specs.declared.words.Job.TheVariants.{Init, Batch, Ingest, Feed, Queue, Drain, Receive, Drill, Check, Pack}
 
 -- of two words
 abbrev pub short_job : Bytes → Option Job
@@ -55,6 +55,10 @@ is_decimal word = list_all is_ascii_digit word && not (leads_with_zero word)
 abbrev pub number_of : Bytes → Option ℕ
 number_of word = if is_decimal word && (nat_lt 0 (length word) && nat_lt (digits_value 10 word) 4294967296) then Some (digits_value 10 word) else None
 
+-- so it is below 2^64
+abbrev pub seed_of : Bytes → Option ℕ
+seed_of word = if is_decimal word && (nat_lt 0 (length word) && nat_lt (digits_value 10 word) 18446744073709551616) then Some (digits_value 10 word) else None
+
 -- to report a subscriber's feed behind its first entries, so many
 abbrev pub feed_of : Option Bytes → Option ℕ → Option Job
 feed_of (Some subscriber) (Some after) = Some (Feed subscriber after)
@@ -82,6 +86,15 @@ are_pairs (name ∷ address ∷ pairs) = is_name name && (not (names pairs name)
 abbrev pub drain_job : List Bytes → Option Job
 drain_job pairs = if are_pairs pairs then Some Drain else None
 
+-- to drill so many stories with a seed: from 1 to 100000
+abbrev pub drill_of : Option ℕ → Option ℕ → Option Job
+drill_of (Some stories) (Some seed) = if nat_lt 0 stories && nat_le stories 100000 then Some (Drill stories seed) else None
+drill_of stories seed = None
+
+abbrev pub drill_job : Bytes → List Bytes → Option Job
+drill_job stories (seed ∷ []) = drill_of (number_of stories) (seed_of seed)
+drill_job stories words = None
+
 -- of a verb and the words behind the store
 abbrev pub job_by : Bytes → List Bytes → Option Job
 job_by verb [] = short_job verb
@@ -90,7 +103,7 @@ job_by verb (first ∷ second ∷ []) = wide_job verb first second
 job_by verb words = None
 
 -- `init STORE UUID`, `batch STORE`, `ingest STORE FORMAT PROVIDER`, `feed STORE SUBSCRIBER AFTER`, `queue STORE`, `drain STORE` with
--- pairs of a NAME and an ADDRESS, `receive STORE NAME`, `check STORE` and `pack STORE`; a store and an address are any words
+-- pairs of a NAME and an ADDRESS, `receive STORE NAME`, `check STORE`, `pack STORE` and `drill N SEED`; a store and an address are any words
 abbrev pub job_of : List Bytes → Option Job
-job_of (verb ∷ store ∷ words) = if same verb (codes "drain") then drain_job words else job_by verb words
+job_of (verb ∷ first ∷ words) = if same verb (codes "drain") then drain_job words else (if same verb (codes "drill") then drill_job first words else job_by verb words)
 job_of words = None

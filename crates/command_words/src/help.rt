@@ -40,6 +40,10 @@ const PACK: &str =
     "newsdesk pack STORE                     pack what only the log holds into its side, empty the log, and say how many entries there are
 ";
 
+const DRILL: &str =
+    "newsdesk drill N SEED                   in memory: take N stories drawn from SEED, deliver all feeds, and write how long and how far they are
+";
+
 const TAIL: &str = "newsdesk --help                         say this
 newsdesk COMMAND --help                 say the line of one command
 newsdesk --version                      say the version
@@ -56,9 +60,9 @@ to the output too, as {\"status\":7} with the place of the damage.
 ";
 
 /// How the program is used, for `--help`: texts, to be written one behind the other. Each command has a line.
-pub fn help_texts() -> [&'static str; 11] {
+pub fn help_texts() -> [&'static str; 12] {
     [
-        HEAD, INIT, BATCH, INGEST, FEED, QUEUE, DRAIN, RECEIVE, CHECK, PACK, TAIL,
+        HEAD, INIT, BATCH, INGEST, FEED, QUEUE, DRAIN, RECEIVE, CHECK, PACK, DRILL, TAIL,
     ]
 }
 
@@ -74,6 +78,7 @@ pub fn command_help(command: &str) -> Option<&'static str> {
         "receive" => Some(RECEIVE),
         "check" => Some(CHECK),
         "pack" => Some(PACK),
+        "drill" => Some(DRILL),
         _ => None,
     }
 }

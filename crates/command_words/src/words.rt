@@ -5,11 +5,14 @@ ghost use Rattle.std.specs.List.{list_all};
 ghost use Rattle.std.specs.Option.{option_map};
 ghost use Rattle.uuid.specs.Text.{parsed};
 ghost use Rattle.command_words.specs.declared.words.Job.TheVariants.{Init, Receive};
-ghost use Rattle.command_words.specs.Words.{feed_of, format_of, ingest_of, job_of, name_of, number_of};
+ghost use Rattle.command_words.specs.Words.{drill_of, feed_of, format_of, ingest_of, job_of, name_of, number_of, seed_of};
 ghost use Rattle.command_words.specs.Words as spec;
 
 use news_types::{Format, Name, Text};
 use uuid::Uuid;
+
+/// The most stories of a drill.
+const MOST_STORIES: u32 = 100_000;
 
 /// What a command line asks for.
 #[derive(Clone, Copy, PartialEq, Eq)]
@@ -28,6 +31,8 @@ pub enum Job {
     Drain,
     /// To take the frames of the input as the receiver of this name.
     Receive(Name),
+    /// To drill a newsroom in memory with so many stories, drawn from this seed.
+    Drill { stories: u32, seed: u64 },
     /// To open the log, and tell what it holds.
     Check,
     /// To let the side take what only the log has, and empty the log.
@@ -38,11 +43,14 @@ pub enum Job {
 pub fn read_words(words: &[Text]) -> Option<Job>
     ensures { result ≡ job_of words.now }
 {
-    let [verb, _, rest @ ..] = words else {
+    let [verb, first, rest @ ..] = words else {
         return None;
     };
     if verb.as_str() == "drain" {
         return drain_job(rest);
+    }
+    if verb.as_str() == "drill" {
+        return drill_job(first.as_str(), rest);
     }
     job_by(verb.as_str(), rest)
 }
@@ -91,6 +99,28 @@ fn names(pairs: &[Text], name: &Text) -> bool
         [other, _, pairs @ ..] => other.as_str() == name.as_str() || names(pairs, name),
         _ => false,
     }
+}
+
+/// To drill so many stories with a seed, if these are the two numbers.
+fn drill_job(stories: &str, words: &[Text]) -> Option<Job>
+    ensures { result ≡ spec.drill_job stories.now words.now }
+{
+    match words {
+        [seed] => drill_by(stories, seed.as_str()),
+        _ => None,
+    }
+}
+
+/// To drill so many stories with this seed, if the words are numbers, and the first one from 1 to 100000.
+fn drill_by(stories: &str, seed: &str) -> Option<Job>
+    ensures { result ≡ drill_of (number_of stories.now) (seed_of seed.now) }
+{
+    let stories = read_number(stories)?;
+    let seed = read_seed(seed)?;
+    if stories == 0 || stories > MOST_STORIES {
+        return None;
+    }
+    Some(Job::Drill { stories, seed })
 }
 
 /// What this word and a store ask for.
@@ -194,6 +224,17 @@ fn leads_with_zero(word: &[u8]) -> bool
 /// The number that the word is, if it is one below 4294967296, in decimal without a sign and without leading zeros.
 fn read_number(word: &str) -> Option<u32>
     ensures { result ≡ number_of word.now }
+{
+    let digits = word.as_bytes();
+    if !are_digits(digits) || leads_with_zero(digits) {
+        return None;
+    }
+    word.parse().ok()
+}
+
+/// The number that the word is, if it is one below 2^64, in decimal without a sign and without leading zeros.
+fn read_seed(word: &str) -> Option<u64>
+    ensures { result ≡ seed_of word.now }
 {
     let digits = word.as_bytes();
     if !are_digits(digits) || leads_with_zero(digits) {

@@ -42,7 +42,7 @@ use Rattle.store_files.proofs.Serving.{served}
 use Rattle.newsdesk_cli.specs.Command.{check_line, IsServed, Serves, NotOpened, IsTold, IsChecked, HasAnswered, IsReportOf, IsDrain, Does}
 use Rattle.newsdesk_cli.specs.Packing.{packed_line}
 use Rattle.command_words.specs.declared.words.Job.{Job}
-use Rattle.command_words.specs.declared.words.Job.TheVariants.{Init, Batch, Ingest, Feed, Queue, Drain, Receive, Check, Pack}
+use Rattle.command_words.specs.declared.words.Job.TheVariants.{Init, Batch, Ingest, Feed, Queue, Drain, Receive, Drill, Check, Pack}
 use Rattle.newsdesk_cli.proofs.Commands.{rose_along}
 use Rattle.newsdesk_cli.proofs.Draining.{drain_else, drain_failed}
 use Rattle.newsdesk_cli.proofs.Reporting.{reported_else}
@@ -146,6 +146,7 @@ module _ {D O S C : Type 0} (disk : DiskMeaning D) (clock : ClockMeaning C) (sou
   serves link l l' (Some Queue) did = reported queue_report_at did.1
   serves link l l' (Some Drain) did = drained link l l' did.1
   serves link l l' (Some (Receive name)) did = tt
+  serves link l l' (Some (Drill stories seed)) did = tt
   serves link l l' (Some Check) did = elim did.1 [ inl not ↦ not_opened not | inr done ↦ check_served sink o o' Before Now status done.opened.history done.told ]
   serves link l l' (Some Pack) did = elim did.1 [
     | inl not ↦ not_opened not

@@ -33,6 +33,7 @@ use Rattle.room_runs.specs.Wires.{IngestAnswered}
 use Rattle.newsdesk_cli.specs.FilesLeft.{FilesLeft}
 use Rattle.room_runs.specs.Lines.{no_frames, LONGEST_INPUT}
 use Rattle.room_reports.specs.Reports.{feed_report_at, queue_report_at, IsReport}
+use Rattle.feed_drill.specs.Drill.{Drills}
 use Rattle.publish_workers.specs.LinkDrains.{IsDrained}
 use Rattle.newsdesk_cli.specs.Packing.{packed_line, Packs, PacksNot}
 use Rattle.receiver_files.specs.Log.{Gives}
@@ -41,12 +42,13 @@ use Rattle.receiver_files.specs.Receive.{IsReceive}
 use Rattle.store_files.specs.Files.{FilesHold, CrashKeeps}
 use Rattle.store_files.specs.Store.{IsRefused, IsOpenRoom}
 use Rattle.run_status.specs.Status.{number_of, line_of}
+use Rattle.run_status.specs.declared.status.Status.{Status}
 use Rattle.run_status.specs.declared.status.Status.TheVariants.{Usage}
 use Rattle.store_files.specs.Trouble.{status_of, trouble_of_pack}
 use Rattle.store_files.specs.declared.trouble.Trouble.{Trouble}
 use Rattle.store_files.specs.declared.trouble.Trouble.TheVariants as trouble
 use Rattle.command_words.specs.declared.words.Job.{Job}
-use Rattle.command_words.specs.declared.words.Job.TheVariants.{Init, Batch, Ingest, Feed, Queue, Drain, Receive, Check, Pack}
+use Rattle.command_words.specs.declared.words.Job.TheVariants.{Init, Batch, Ingest, Feed, Queue, Drain, Receive, Drill, Check, Pack}
 
 -- how many entries and publications a list has, as a line
 abbrev pub check_line : History → List ℕ
@@ -194,6 +196,14 @@ module _ {D O C : Type 0} (disk : DiskMeaning D) (clock : ClockMeaning C) (sink 
     abbrev pub IsDrain : Type 0
     IsDrain = NotDrained ⊎ HasDrained
 
+-- a newsroom in memory was drilled with so many stories of a seed; the report that was printed is that of the drill's list, and how that ended is told
+pub record IsDrilled {O : Type 0} (sink : SinkMeaning O) (stories seed : ℕ) (o o' : O) (status : ℕ) : Type 0 where
+  pub ended : Status
+  pub drilled : O
+  pub did : Drills sink stories seed o drilled ended
+  pub status_is : status ≡ number_of ended
+  pub line : Told sink drilled o' (line_of ended)
+
 module _ {D O : Type 0} (disk : DiskMeaning D) (sink : SinkMeaning O) (store : Bytes) (log log' side side' : D) (o o' : O) (status : ℕ) where
   -- one of the files is not empty, and both are as they were
   pub record IsTaken : Type 0 where
@@ -257,6 +267,7 @@ module _ {D O S C L : Type 0} (disk : DiskMeaning D) (clock : ClockMeaning C) (s
   Does (Some Queue) = (i' ≡ i) × IsReportOf disk clock sink log log' side side' o o' c c' status queue_report_at
   Does (Some Drain) = (i' ≡ i) × IsDrain disk clock sink log log' side side' o o' c c' status link l l'
   Does (Some (Receive name)) = (c' ≡ c) × (side' ≡ side) × IsReceive disk source sink name log log' i i' o o' status
+  Does (Some (Drill stories seed)) = Unread × (log' ≡ log) × (side' ≡ side) × IsDrilled sink stories seed o o' status
   Does (Some (Ingest format provider)) = IsIngest disk clock source sink log log' side side' i i' o o' c c' status format provider
 
 -- the files are not refused for their bytes, and a failure is told only where the count of the disks rose
@@ -275,6 +286,7 @@ Serves before now (Some (Feed subscriber after)) status = IsServed before now st
 Serves before now (Some Queue) status = IsServed before now status
 Serves before now (Some Drain) status = IsServed before now status
 Serves before now (Some (Receive name)) status = Unit {0}
+Serves before now (Some (Drill stories seed)) status = Unit {0}
 Serves before now (Some Check) status = IsServed before now status
 Serves before now (Some Pack) status = IsServed before now status
 

@@ -10,13 +10,14 @@ ghost use Rattle.receiver_files.specs.Receive.{IsReceive, IsServed};
 ghost use Rattle.room_reports.specs.Reports.{feed_report_at, queue_report_at};
 ghost use Rattle.store_files.specs.Store.{Opens};
 ghost use Rattle.command_words.specs.Words.{job_of};
-ghost use Rattle.newsdesk_cli.specs.Command.{IsInit, IsBatch, IsIngest, IsReportOf, IsDrain, IsCheck, IsPack, Does, Serves, ReceiverServes};
+ghost use Rattle.newsdesk_cli.specs.Command.{IsInit, IsBatch, IsIngest, IsReportOf, IsDrain, IsDrilled, IsCheck, IsPack, Does, Serves, ReceiverServes};
 ghost use Rattle.command_words.specs.declared.words.Job.TheVariants.{Drain};
 
 use crate::check::check_line;
 use crate::pack::tell_packed;
 use crate::telling::{tell_trouble, tell_usage};
 use command_words::{Job, read_words};
+use feed_drill::run_drill;
 use news_io::{Clock, Disk, Failed, Keeper, Link, Sink, Source};
 use news_journal::{Header, Journal};
 use news_types::{Format, Name, Text};
@@ -24,12 +25,13 @@ use publish_workers::drain_links;
 use receiver_files::receive_frames;
 use room_reports::{tell_feed, tell_queue};
 use room_runs::{answer_input, ingest_input};
+use run_status::tell_status;
 use std::alloc::Global;
 use store_files::{Trouble, is_empty, open_room};
 use uuid::Uuid;
 
 /// Does what the words ask for, and gives the status and the two disks back, the log's and the side's. Only `drain` uses the
-/// links; for `receive` the log is a receiver's.
+/// links; for `receive` the log is a receiver's, and `drill` leaves both alone.
 #[tactic(none)]
 pub fn run<S: Source, O: Sink, D: Disk, C: Clock, L: Link>(
     alloc: Global,
@@ -81,6 +83,7 @@ fn do_job<S: Source, O: Sink, D: Disk, C: Clock, L: Link>(
         Job::Queue => queue(alloc, output, log, side, clock),
         Job::Drain => drain(alloc, output, log, side, clock, links),
         Job::Receive(name) => receive(alloc, input, output, log, side, name),
+        Job::Drill { stories, seed } => drill(alloc, output, log, side, stories, seed),
         Job::Check => check(alloc, output, log, side),
         Job::Pack => pack(alloc, output, log, side),
     }
@@ -245,6 +248,24 @@ fn receive<S: Source, O: Sink, D: Disk>(
     ensures serves { D.disk.tells log → (frames : List Frame) → Gives name (D.disk.seen log) frames → IsServed (D.disk.faults log) (D.disk.faults result.1) result.0 }
 {
     let (status, log) = receive_frames(alloc, input, output, log, name);
+    (status, log, side)
+}
+
+/// Drills a newsroom in memory, and tells how that ended. The files are left alone.
+#[tactic(none)]
+fn drill<O: Sink, D: Disk>(
+    alloc: Global,
+    output: &mut O,
+    log: D,
+    side: D,
+    stories: u32,
+    seed: u64,
+) -> (u8, D, D)
+    ensures drilled { IsDrilled O.sink stories seed output.old output.new result.0 }
+    ensures files { (result.1 ≡ log) × (result.2 ≡ side) }
+{
+    let ended = run_drill(alloc, stories, seed, output);
+    let status = tell_status(output, ended);
     (status, log, side)
 }
 

@@ -1,0 +1,7 @@
+mod Asked
+mod Empty
+mod Counted
+mod Reported
+mod Opened
+mod Delivered
+mod Drilled

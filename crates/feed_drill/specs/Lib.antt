@@ -1,0 +1,5 @@
+pub mod Nowhere
+pub mod Requests
+pub mod Report
+pub mod Delivery
+pub mod Drill
