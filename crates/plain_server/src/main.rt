@@ -11,7 +11,9 @@
 //! memory, and its clock shows 1000 at the first request and a second more at each of the next 63.
 #![tactic(auto)]
 
+mod hoard;
 mod rooms;
+mod starved;
 mod streams;
 mod table;
 

@@ -1,7 +1,8 @@
 //! A table of connections.
 //!
 //! A connection is a line, the bytes that it sends, and a line feed. The line says four things with a space between them: how
-//! many bytes the log uses before it, which append to the log fails (0: none), how many bytes follow, and a title.
+//! many bytes the log uses before it, what fails, how many bytes follow, and a title. What fails is the append to the log with
+//! this number (0: none), or `growth`: in the turn of every other request, of which the first is one, there is no memory.
 //!
 //! Each is served by a newsroom of its own. The title is printed behind `= `, the bytes of the responses as they are, and
 //! behind a line feed and `- ` how the connection ended. Then it is served once more, with bytes that come one at a time: what
@@ -9,20 +10,29 @@
 ghost use Rattle.std.specs.Prelude.{◌<◌};
 
 use crate::rooms::{new_clock, new_room, new_routes};
+use crate::starved::StarvedRoom;
 use desk_routes::Routes;
-use feed_http::{Ended, serve_plain};
+use feed_http::{Ended, serve, serve_plain};
 use news_io::{MemorySink, MemorySource};
 use std::alloc::Global;
 use std::io::{self, ErrorKind, Read, Write};
 use std::str;
+
+/// What fails while a connection is served.
+#[derive(Clone, Copy)]
+enum Trouble {
+    /// The append to the log with this number; with 0, none.
+    Append(u64),
+    /// All growth, in the turn of every other request.
+    Growth,
+}
 
 /// What a line of the table says.
 #[derive(Clone, Copy)]
 struct Heading<'a> {
     /// How many bytes the log uses.
     used: u64,
-    /// The append that fails.
-    failing: u64,
+    trouble: Trouble,
     /// How many bytes follow.
     length: usize,
     title: &'a str,
@@ -73,11 +83,11 @@ fn read_heading(line: &[u8]) -> io::Result<Heading> {
         return Err(invalid());
     };
     let (used, line) = number_before(line)?;
-    let (failing, line) = number_before(line)?;
+    let (trouble, line) = trouble_before(line)?;
     let (length, title) = number_before(line)?;
     Ok(Heading {
         used,
-        failing,
+        trouble,
         length: length as usize,
         title,
     })
@@ -92,6 +102,15 @@ fn number_before(line: &str) -> io::Result<(u64, &str)> {
         Ok(number) => Ok((number, rest)),
         Err(_) => Err(invalid()),
     }
+}
+
+/// The trouble before the first space, and what stands behind that.
+fn trouble_before(line: &str) -> io::Result<(Trouble, &str)> {
+    if let Some(rest) = line.strip_prefix("growth ") {
+        return Ok((Trouble::Growth, rest));
+    }
+    let (number, rest) = number_before(line)?;
+    Ok((Trouble::Append(number), rest))
 }
 
 /// Serves a connection as a whole and byte by byte, and prints what it is answered.
@@ -123,10 +142,19 @@ fn answered(
 ) -> io::Result<(MemorySink, Ended)>
     requires { 0 < most }
 {
-    let mut room = new_room(alloc, heading.used, heading.failing)?;
     let mut clock = new_clock(alloc)?;
     let mut source = MemorySource::new(bytes.to_vec(alloc)?).in_pieces_of(most);
     let mut sink = MemorySink::new(alloc);
-    let ended = serve_plain(routes, &mut room, &mut clock, &mut source, &mut sink);
+    let ended = match heading.trouble {
+        Trouble::Append(failing) => {
+            let mut room = new_room(alloc, heading.used, failing)?;
+            serve_plain(routes, &mut room, &mut clock, &mut source, &mut sink)
+        }
+        Trouble::Growth => {
+            let room = new_room(alloc, heading.used, 0)?;
+            let mut room = StarvedRoom::new(alloc, room)?;
+            serve(routes, &mut room, &mut clock, &mut source, &mut sink)
+        }
+    };
     Ok((sink, ended))
 }

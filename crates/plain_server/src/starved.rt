@@ -1,0 +1,55 @@
+//! A newsroom in memory whose memory runs out again and again.
+ghost use Rattle.plain_server.specs.Rooms.{StandsForSome};
+
+use crate::hoard::Hoard;
+use desk_routes::Routes;
+use feed_http::{Answers, HttpAnswer, answer_one};
+use http_wire::HttpRequest;
+use news_io::MemoryKeeper;
+use news_room::Room;
+use std::alloc::Global;
+use std::io;
+
+/// A newsroom that finds no memory in the turn of every other request, of which the first is one.
+#[derive(Drop)]
+pub(crate) struct StarvedRoom {
+    room: Room<MemoryKeeper>,
+    hoard: Hoard,
+    /// Whether it finds no memory in the next turn.
+    starves: bool,
+}
+
+impl StarvedRoom {
+    ghost use Rattle.std.specs.Prelude.{IfOk};
+
+    pub(crate) fn new(alloc: Global, room: Room<MemoryKeeper>) -> io::Result<StarvedRoom>
+        requires { StandsForSome room }
+        ensures { IfOk result (λ starved. StandsForSome starved.room) }
+    {
+        Ok(StarvedRoom {
+            room,
+            hoard: Hoard::new(alloc)?,
+            starves: true,
+        })
+    }
+}
+
+impl Answers for StarvedRoom {
+    ghost use Rattle.news_io.specs.Devices.{memory_keeper};
+    ghost use Rattle.feed_http.specs.Turn.{IsAnswered};
+    ghost use Rattle.plain_server.specs.Rooms.{StandsForSome};
+
+    ghost is_ready = { λ starved. StandsForSome starved.room };
+
+    ghost turn = { λ old now request answer new. IsAnswered memory_keeper old.room now request answer new.room };
+
+    fn answer(&mut self, routes: &Routes, now: u64, request: &HttpRequest) -> HttpAnswer {
+        if self.starves {
+            self.hoard.take_all();
+        }
+        let answer = answer_one(routes, &mut self.room, now, request);
+        self.hoard.give_back();
+        self.starves = !self.starves;
+        answer
+    }
+}
