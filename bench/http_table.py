@@ -4,10 +4,13 @@
     bench/http_table.py            # each connection by curl, or as bytes where curl cannot send it, to `plain_server` on a socket
     bench/http_table.py --write    # writes the table as crates/plain_server/stdin and stdout, which the gate runs
 
+The last connection, whose memory runs out again and again, is the gate's alone.
+
 What is expected is worked by hand from the rules of the newsroom, in the order of its statuses, and written below; the JSON, the frames and
 the lengths are made here, by Python's own library. A connection is served by a newsroom of its own without an entry, whose clock shows 1000
 at the first request and a second more at each.
 """
+import copy
 import json
 import os
 import socket
@@ -545,6 +548,37 @@ ENDINGS = [
     Connection("64 requests, of which the last closes", "Closed", Raw(NOTHING * 63 + "GET /nothing HTTP/1.0\r\n\r\n", *[bare(404)] * 64)),
 ]
 
+
+
+def twice(ask):
+    """A request that finds no memory, and then the same again."""
+    first = copy.copy(ask)
+    first.status, first.body, first.media = bare(507)
+    return [first, ask]
+
+
+# memory runs out in the turn of every other request, of which the first is one: what is answered before the turn is answered still
+STARVED = [
+    Connection(
+        "no memory in the turn of every other request",
+        "Stopped { place: 7 }",
+        *twice(city()),
+        *twice(post("admin", 2, "add_subscriber", done(2), subscriber="alpha", format="ninjs", products=["all"])),
+        *twice(post("admin", 3, "flash", done(3, 1, 1, 1005), story={"headline": "Fire", "slugline": "fire", "language": "en", "urgency": 3, "body": "Smoke."})),
+        *twice(get("/queue", "admin", queue(("alpha", 1, 0, 0, "pending")))),
+        *twice(get("/feeds/alpha/after/0", "alpha", feed("alpha", 1, (1, 1, 1, 1, "first", 1005)))),
+        *twice(receipt("alpha", "alpha", 1, done(4))),
+        *twice(post("admin", 4, "add_provider", done(5), provider="wire")),
+        *twice(ingest("wire", "admin", {"uri": "http://x.example/1", "type": "text", "headline": "Fire", "body_text": "Smoke."}, done(6, 2))),
+        *twice(get("/items/2", "admin", item("ingested", {"headline": "Fire", "body": "Smoke."}, 1, number=2))),
+        *[get("/items/2", "zoe", bare(403))] * 2,
+        *[get("/nothing", "admin", bare(404))] * 2,
+        *twice(post("admin", 5, "stop", done(7))),
+        get("/queue", "admin", (None, "", JSON)),
+        failing="growth",
+    )
+]
+
 TABLE = [*WORKED, USERS, TARGETS, BODIES, STORY, TICKS, INGESTS, *FULL, *FAILS, *ENDINGS]
 
 
@@ -552,14 +586,14 @@ TABLE = [*WORKED, USERS, TARGETS, BODIES, STORY, TICKS, INGESTS, *FULL, *FAILS, 
 
 
 def write_files():
-    for connection in TABLE:
+    for connection in [*TABLE, *STARVED]:
         assert len(connection.asks) <= 64, connection.title
     with open(os.path.join(GATE, "stdin"), "wb") as file:
-        for connection in TABLE:
+        for connection in [*TABLE, *STARVED]:
             sent = connection.bytes()
             file.write(f"{connection.used} {connection.failing} {len(sent)} {connection.title}\n".encode() + sent + b"\n")
     with open(os.path.join(GATE, "stdout"), "wb") as file:
-        for connection in TABLE:
+        for connection in [*TABLE, *STARVED]:
             file.write(f"= {connection.title}\n".encode() + connection.answer() + f"\n- {connection.ended}\n".encode())
 
 
