@@ -1,7 +1,6 @@
 -- A drain at one moment that ended with none ready, none lost and none refused.
-use Rattle.std.proofs.Common.{◌≡◌, ◌+◌, ◌-◌, inl, ℕ, Bool, true, false, List, [], ◌∷◌, ◌++◌, length, min, get_or, refl, sym, ap, ◌∙◌, subst, arith}
+use Rattle.std.proofs.Common.{◌≡◌, ◌+◌, inl, ℕ, false, List, [], ◌∷◌, ◌++◌, min, get_or, sym, ap, ◌∙◌, subst, arith}
 use Rattle.news_types.specs.declared.entry.Entry.{Entry}
-use Rattle.news_types.specs.Names.{Bytes}
 use Rattle.news_types.specs.Members.{Each}
 use Rattle.news_types.specs.History.{moment_at}
 use Rattle.news_types.specs.Books.{Book, onto}

@@ -1,26 +1,23 @@
 -- A drill, from its parts.
-use Rattle.std.proofs.Common.{◌≡◌, ◌≤◌, ℕ, true, List, [], ◌∷◌, ◌++◌, length, map, take, drop, refl, sym, ap, ◌∙◌, subst}
+use Rattle.std.proofs.Common.{◌≡◌, ℕ, true, List, [], ◌++◌, length, map, take, drop, sym, ap, ◌∙◌, subst}
 use Rattle.std.proofs.lemmas.List.{take-append-drop}
-use Rattle.news_types.specs.declared.entry.Entry.{Entry}
 use Rattle.news_types.specs.declared.query.QueueRow.{QueueRow}
 use Rattle.news_types.specs.Names.{Bytes, is_in}
 use Rattle.news_types.specs.History.{History, moment_at}
-use Rattle.news_types.specs.Books.{Book, onto, followed_by}
+use Rattle.news_types.specs.Books.{Book, followed_by}
 use Rattle.news_types.specs.Answers.{in_order, queue_rows}
 use Rattle.news_types.specs.Delivery.{acked, tries}
-use Rattle.news_types.specs.Products.{subscribers}
 use Rattle.news_io.specs.Faults.{Rose}
 use Rattle.news_io.specs.Sink.{SinkMeaning}
 use Rattle.news_io.specs.declared.memory_keeper.MemoryKeeper.{MemoryKeeper}
 use Rattle.news_room.specs.declared.room.Room.{Room}
-use Rattle.feed_receiver.specs.Holds.{Received}
 use Rattle.feed_links.specs.declared.memory_link.MemoryLink.{MemoryLink}
 use Rattle.drill_plan.specs.declared.planned.Planned.{Planned}
 use Rattle.drill_plan.specs.Plan.{plan}
 use Rattle.publish_workers.specs.Completeness.{NoneReady}
 use Rattle.publish_workers.specs.InMemory.{names_of, HoldsAll}
 use Rattle.feed_drill.specs.Requests.{given, with_list}
-use Rattle.feed_drill.specs.Report.{subscribers_of, entries_line, row_lines, feed_lines, drill_report}
+use Rattle.feed_drill.specs.Report.{subscribers_of, entries_line, row_lines, drill_report}
 use Rattle.feed_drill.specs.Delivery.{empty, IsDelivered}
 use Rattle.feed_drill.specs.Drill.{reading_of, IsDrill, PrintsFirst}
 use Rattle.feed_drill.proofs.Asked.{untried_given, nothing_tried}

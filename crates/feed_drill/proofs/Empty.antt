@@ -1,5 +1,5 @@
 -- Receivers that hold nothing.
-use Rattle.std.proofs.Common.{◌≡◌, ◌+◌, ◌≤◌, ◌<◌, ◌||◌, ℕ, zero, suc, Bool, true, false, not, cond, nat_lt, List, [], ◌∷◌, ◌++◌, length, get_or, map, take, Option, Some, None, refl, sym, ap, ◌∙◌, subst, arith}
+use Rattle.std.proofs.Common.{◌≡◌, ◌+◌, ◌<◌, ◌||◌, ℕ, zero, suc, Bool, true, false, not, cond, nat_lt, List, [], ◌∷◌, ◌++◌, length, get_or, map, take, Option, Some, None, refl, sym, ap, ◌∙◌, subst, arith}
 use Rattle.std.specs.Prelude.{slice_get}
 use Rattle.std.specs.List.{AllZip, position_or_len}
 use Rattle.std.specs.Option.{option_and_then}
@@ -10,7 +10,6 @@ use Rattle.news_types.specs.declared.query.QueueRow.{QueueRow}
 use Rattle.news_types.specs.Names.{Bytes, same, is_in}
 use Rattle.news_types.specs.Frames.{Frame, frame_bytes}
 use Rattle.news_types.specs.History.{History}
-use Rattle.news_types.specs.Feeds.{feed}
 use Rattle.news_types.specs.Delivery.{acked}
 use Rattle.news_types.proofs.Members.{some_is, none_some}
 use Rattle.news_io.specs.Keeper.{KeeperMeaning}

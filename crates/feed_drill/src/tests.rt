@@ -1,7 +1,7 @@
-//! A drill of one story.
+//! Drills: one by hand, one twice, and a large one.
 
 use crate::run_drill;
-use news_io::{MemorySink, Sink};
+use news_io::MemorySink;
 use run_status::Status;
 use std::alloc::Global;
 use std::test::Fail;
@@ -40,8 +40,15 @@ fn printed(alloc: Global, stories: u32, seed: u64) -> Result<MemorySink, Fail> {
 #[test]
 fn a_drill_gives_the_same_again(rt: HostRuntime) -> Result<(), Fail> {
     let alloc = rt.alloc();
-    let first = printed(alloc, 2000, 7)?;
-    let again = printed(alloc, 2000, 7)?;
+    let first = printed(alloc, 20000, 7)?;
+    let again = printed(alloc, 20000, 7)?;
     assert_eq!(rt; first.as_bytes(), again.as_bytes());
+    Ok(())
+}
+
+/// Some 187,500 frames are delivered: a queue that went through all publications at each of them would not end in time.
+#[test]
+fn a_large_drill_ends(rt: HostRuntime) -> Result<(), Fail> {
+    printed(rt.alloc(), 100_000, 7)?;
     Ok(())
 }
