@@ -1,0 +1,375 @@
+-- A run of the newsroom more, behind any steps: the receivers stay as they are.
+use Rattle.std.specs.List.{slice_get}
+use Rattle.std.proofs.Common.{◌≡◌, ◌⊎◌, inl, inr, ℕ, List, [], ◌∷◌, ◌++◌, length, Option, Some, None, refl, sym, ap, ◌∙◌, subst, append-nil}
+use Rattle.news_types.specs.declared.query.Query.{Query}
+use Rattle.news_types.specs.declared.query.Query.TheVariants as query
+use Rattle.news_types.specs.declared.words.Format.TheVariants.{Ninjs, Text7901}
+use Rattle.news_types.specs.declared.entry.Entry.{Entry}
+use Rattle.news_types.specs.Names.{Bytes}
+use Rattle.news_types.specs.History.{History}
+use Rattle.news_types.specs.Frames.{Writer}
+use Rattle.feed_frames.specs.Writer.{the_writer}
+use Rattle.news_io.specs.Clock.{ClockMeaning}
+use Rattle.news_io.specs.Disk.{DiskMeaning}
+use Rattle.news_io.specs.Left.{IsLeft, Between}
+use Rattle.news_io.specs.Link.{LinkMeaning}
+use Rattle.news_io.specs.Sink.{SinkMeaning}
+use Rattle.news_io.specs.Source.{SourceMeaning}
+use Rattle.news_pair.specs.Keeper.{pair_of}
+use Rattle.news_pair.specs.Stands.{log_disk, side_disk}
+use Rattle.news_room.specs.Stands.{in_doubt}
+use Rattle.room_reports.specs.Reports.{feed_report_at, queue_report_at}
+use Rattle.room_runs.specs.Batch.{InputAnswered}
+use Rattle.room_runs.specs.Wires.{IngestAnswered}
+use Rattle.store_files.specs.Files.{Files, OpenTo, OpenAlike, MayLeave, LeftSince}
+use Rattle.world_laws.specs.World.{World, Event, Reopens, opening, reopened, happens, run}
+use Rattle.newsdesk_cli.specs.Command.{HasGoneOn, HasAnswered, HasReported, HasDrained}
+use Rattle.newsdesk_cli.specs.FilesLeft.{NoneInDoubt, FilesLeft}
+use Rattle.program_events.specs.Events.{line_input}
+use Rattle.program_events.specs.Stories.{wire_input, item_input}
+use Rattle.program_events.specs.Leads.{IsBegunOf, LeadsOn}
+use Rattle.program_events.specs.Chains.{Did, Init, Batch, Ingest, Feed, Queue, Drain, Check, Pack, Run, LeftByRun, MayCrash, IsLeftBy, world, AreOfGoing, Answers, Reports, Pushes, AreOfRun}
+use Rattle.news_types.specs.Receiver.{Receiver}
+use Rattle.program_events.proofs.Turns.{run_on}
+use Rattle.program_events.proofs.Draining.{drain_happened}
+use Rattle.program_events.proofs.Reports.{report_happened}
+use Rattle.program_events.proofs.Runs.{batch_events, wire_events, item_events}
+use Rattle.program_events.proofs.Stores.{one_history, alike, to_both, refused_keeps, init_keeps, init_time, opened_keeps, packed_within, counts_since}
+use Rattle.system_events.specs.Systems.{Step, Runs, FilesAreLeft, AreOfSteps}
+use Rattle.system_events.proofs.Worlds.{AllOf, all_then, all_first, all_keep, OfNewsroom, Standing}
+use Rattle.system_events.proofs.Quiet.{Quiet, begun_quiet, line_quiet, wire_quiet, item_quiet, run_quiet, report_quiet, drain_quiet}
+
+-- ---- a world behind an opening
+
+pub world_on : (write : Writer) (first second : List Event) → world write (first ++ second) ≡ run write second (world write first)
+world_on write first second = run_on write first second opening
+
+module _ {D S O C L : Type 0} (disk : DiskMeaning D) (clock : ClockMeaning C) (source : SourceMeaning S) (sink : SinkMeaning O) (link : LinkMeaning L) where
+  -- the files open to the list of the world behind events of these steps and an opening more, and each receiver reopens in it with what its file gives
+  pub record Kept (write : Writer) (store : Bytes) (steps : List (Step disk clock source sink link)) (files : Files) (file_of : Bytes → List ℕ) : Type 0 where
+    pub events : List Event
+    pub of_steps : AreOfSteps disk clock source sink link write steps events
+    pub which : Option ℕ
+    pub opens : OpenTo store files (world write (events ++ Reopens which ∷ [])).server.list
+    pub standing : (name : Bytes) → Standing ((world write events).receivers name) name (file_of name)
+
+module _ {D S O C L : Type 0} (disk : DiskMeaning D) (clock : ClockMeaning C) (source : SourceMeaning S) (sink : SinkMeaning O) (link : LinkMeaning L) (store : Bytes) (long : length store ≡ 16) (file_of : Bytes → List ℕ) where
+  -- publications are written as those of the store are
+  abbrev write : Writer
+  write = the_writer store
+
+  abbrev Steps : Type 0
+  Steps = List (Step disk clock source sink link)
+
+  abbrev Comes : Steps → Files → Type 0
+  Comes steps files = Kept disk clock source sink link write store steps files file_of
+
+  abbrev Left : Steps → Files → Type 0
+  Left steps files = FilesAreLeft disk clock source sink link store steps files
+
+  -- the receivers behind events of the newsroom, and an opening before them
+  still : (before events : List Event) (which : Option ℕ) → Quiet events → (world write ((before ++ Reopens which ∷ []) ++ events)).receivers ≡ (world write before).receivers
+  still before events which quiet =
+      ap (λ (v : World). v.receivers) (world_on write (before ++ Reopens which ∷ []) events)
+      ∙ all_keep write events (world write (before ++ Reopens which ∷ [])) quiet
+      ∙ ap (λ (v : World). v.receivers) (world_on write before (Reopens which ∷ []))
+
+  -- what a run did, as events of a world
+  abbrev Happening : Type 1
+  Happening = Writer → World → List Event → Type 0
+
+  abbrev Goes : Run disk clock source sink link → Type 0
+  Goes r = HasGoneOn disk r.log r.log' r.side r.side' r.status
+
+  -- it has happened in each world that has the list, leads to the list that the files are left with, and is what its run did
+  record HasHappened (r : Run disk clock source sink link) (a : Goes r) (Happened : Happening) : Type 0 where
+    shown : (w : World) → w.server.list ≡ a.opened.history → (events : List Event) × Happened write w events
+    leads : (w : World) (events : List Event) → Happened write w events → LeadsOn write w (a.files r.tells r.tells_side).list (in_doubt (pair_of disk) a.after) events
+    quiet : (w : World) (events : List Event) → Happened write w events → Quiet events
+    of_run : (before events : List Event) → AreOfGoing disk clock source sink link Happened r write before events → AreOfRun disk clock source sink link write before r r.did events
+
+  -- ---- what went on from files that come to the list of a world
+
+  module _ (r : Run disk clock source sink link) (a : Goes r) (Happened : Happening) (hap : HasHappened r a Happened) (steps : Steps) (before : Comes steps (disk.seen r.log, disk.seen r.side)) where
+    abbrev start : World
+    start = world write (before.events ++ Reopens before.which ∷ [])
+
+    same : (store ≡ a.opened.store) × (start.server.list ≡ a.opened.history)
+    same = one_history store a.opened.store long a.opened.long (disk.seen r.log, disk.seen r.side) start.server.list a.opened.history before.opens (a.opened.bytes r.tells r.tells_side)
+
+    abbrev left : FilesLeft disk r.log r.side a.opened.store a.room a.after a.opened.history r.status
+    left = a.files r.tells r.tells_side
+
+    did : (events : List Event) × Happened write start events
+    did = hap.shown start same.1
+
+    on : LeadsOn write start left.list (in_doubt (pair_of disk) a.after) did.0
+    on = hap.leads start did.0 did.1
+
+    -- the first of its events and what has begun of the next, where a crash has undone the rest
+    some_ran : (files : Files) (front begun undone : List Event) → did.0 ≡ front ++ undone → IsBegunOf undone begun → (r.crashed ≡ None → undone ≡ []) → (which : Option ℕ) → OpenTo store files (happens write (run write (front ++ begun) start) (Reopens which)).server.list → Comes (Runs r ∷ steps) files
+    some_ran files front begun undone all is_begun whole which opens =
+        let events : List Event = front ++ begun in
+        let all_events : List Event = (before.events ++ Reopens before.which ∷ []) ++ events in
+        let whole_quiet : Quiet (front ++ undone) = subst (AllOf OfNewsroom) all (hap.quiet start did.0 did.1) in
+        let quiet : Quiet events = all_then OfNewsroom front begun (all_first OfNewsroom front undone whole_quiet) (begun_quiet undone begun is_begun) in
+        record {
+          events = all_events;
+          of_steps = (
+            before.events,
+            before.of_steps,
+            hap.of_run before.events all_events (
+                inr (before.which, events, refl, record { front = front; begun = begun; events_are = refl; undone = undone; is_begun = is_begun; whole = whole; happened = subst (Happened write start) all did.1 })
+                ),
+          );
+          which = which;
+          opens = subst (λ (v : World). OpenTo store files v.server.list) (sym (world_on write all_events (Reopens which ∷ [])))
+              (subst (λ (v : World). OpenTo store files (happens write v (Reopens which)).server.list) (sym (world_on write (before.events ++ Reopens before.which ∷ []) events)) opens);
+          standing = λ name. subst (λ (rs : Bytes → Receiver). Standing (rs name) name (file_of name)) (sym (still before.events events before.which quiet)) (before.standing name);
+        }
+
+    -- its list behind all of them
+    whole_list : (run write (did.0 ++ []) start).server.list ≡ left.list
+    whole_list = ap (λ (l : List Event). (run write l start).server.list) (append-nil did.0) ∙ on.lead.list
+
+    -- all of them, where the files open to the last list, or to it and one in doubt
+    all_ran : (files : Files) → IsLeft (OpenTo a.opened.store) left.list (in_doubt (pair_of disk) a.after) files → Comes (Runs r ∷ steps) files
+    all_ran files (inl opens) =
+        some_ran files did.0 [] [] (sym (append-nil did.0)) tt (λ none. refl) None
+        (subst (λ (h : History). OpenTo store files h) (sym whole_list) (subst (λ (s : Bytes). OpenTo s files left.list) (sym same.0) opens))
+    all_ran files (inr one) =
+        let e : Entry = one.0 in
+        let at = on.doubt e one.1 in
+        let there : slice_get (run write (did.0 ++ []) start).server.doubt at.0 ≡ Some e = ap (λ (l : List Event). slice_get (run write l start).server.doubt at.0) (append-nil did.0) ∙ at.1 in
+        some_ran files did.0 [] [] (sym (append-nil did.0)) tt (λ none. refl) (Some at.0)
+        (subst (λ (found : Option Entry). OpenTo store files (reopened (run write (did.0 ++ []) start).server found).list) (sym there)
+        (subst (λ (h : History). OpenTo store files (e ∷ h)) (sym whole_list) (subst (λ (s : Bytes). OpenTo s files (e ∷ left.list)) (sym same.0) one.2)))
+
+    -- the first few of them, where a crash has left the files so
+    few_ran : (files : Files) → (r.crashed ≡ None → ⊥) → Between (OpenTo a.opened.store) a.opened.history left.list NoneInDoubt (in_doubt (pair_of disk) a.after) files → Comes (Runs r ∷ steps) files
+    few_ran files crash b = by b.left
+      where
+        by : IsLeft (OpenTo a.opened.store) b.part (λ e. ((b.part ≡ a.opened.history) × NoneInDoubt e) ⊎ ((b.part ≡ left.list) × in_doubt (pair_of disk) a.after e)) files → Comes (Runs r ∷ steps) files
+        by (inl opens) =
+            let f = on.lead.each b.within.0 b.part b.behind.0 (b.behind.1 ∙ ap (λ (h : History). b.behind.0 ++ h) (sym same.1)) b.within.1 in
+            some_ran files f.front f.begun f.rest f.events_are f.is_begun (λ none. absurd (crash none)) None
+            (subst (λ (h : History). OpenTo store files h) (sym f.list) (subst (λ (s : Bytes). OpenTo s files b.part) (sym same.0) opens))
+        by (inr one) = elim one.1 [
+          | inl at_first ↦ absurd at_first.1
+          | inr at_last ↦ all_ran files (inr (one.0, at_last.1, subst (λ (h : History). OpenTo a.opened.store files (one.0 ∷ h)) at_last.0 one.2))
+        ]
+
+    -- a crash has left the files as they were
+    none_left : (crash : r.crashed ≡ None → ⊥) (files others : Files) → Comes steps others → OpenAlike store others files → Comes (Runs r ∷ steps) files
+    none_left crash files others c same_files = record {
+      events = c.events;
+      of_steps = (c.events, c.of_steps, hap.of_run c.events c.events (inl (crash, refl)));
+      which = c.which;
+      opens = alike store others files (world write (c.events ++ Reopens c.which ∷ [])).server.list c.opens same_files;
+      standing = c.standing;
+    }
+
+  -- ---- a run more, where all files before it come to lists of a world
+
+  module _ (r : Run disk clock source sink link) (steps : Steps) (begins : (files : Files) → MayLeave disk r.log r.side files → Left steps files) (before : (files : Files) → Left steps files → Comes steps files) where
+    from : Comes steps (disk.seen r.log, disk.seen r.side)
+    from = before (disk.seen r.log, disk.seen r.side) (begins (disk.seen r.log, disk.seen r.side) (disk.leaves_seen r.log r.tells, disk.leaves_seen r.side r.tells_side))
+
+    abbrev list : History
+    list = (world write (from.events ++ Reopens from.which ∷ [])).server.list
+
+    abbrev TheDid : Type 0
+    TheDid = Did disk clock source sink link r.log r.log' r.side r.side' r.input r.input' r.output r.output' r.clock_was r.clock_is r.links r.links' r.status
+
+    -- a run that is no event: the files open as some of those before it
+    as_before : ((write : Writer) (events : List Event) → AreOfRun disk clock source sink link write events r r.did events) → (files : Files) → (others : Files) × MayLeave disk r.log r.side others × OpenAlike store others files → Comes (Runs r ∷ steps) files
+    as_before no_event files was =
+        let c = before was.0 (begins was.0 was.1) in
+        record {
+          events = c.events;
+          of_steps = (c.events, c.of_steps, no_event write c.events);
+          which = c.which;
+          opens = alike store was.0 files (world write (c.events ++ Reopens c.which ∷ [])).server.list c.opens was.2;
+          standing = c.standing;
+        }
+
+    -- ---- files that were opened, and left otherwise
+
+    module _ (a : Goes r) (Happened : Happening) (hap : HasHappened r a Happened) where
+      going_left : (files : Files) → MayLeave disk r.log' r.side' files → Comes (Runs r ∷ steps) files
+      going_left files may =
+          let there = subst (λ (d : D). disk.may_leave d files.0) a.same may.0 in
+          let there' = subst (λ (d : D). disk.may_leave d files.1) a.same_side may.1 in
+          all_ran r a Happened hap steps from files ((a.files r.tells r.tells_side).now files (inr there, inr there'))
+
+      going_crashed : (files : Files) → (r.crashed ≡ None → ⊥) → LeftSince disk r.log' r.side' (disk.moment r.log) files → Comes (Runs r ∷ steps) files
+      going_crashed files crash may =
+          let there = subst (λ (d : D). disk.left_since d (disk.moment r.log) files.0) a.same may.0 in
+          let there' = subst (λ (d : D). disk.may_leave d files.1) a.same_side may.1 in
+          elim ((a.files r.tells r.tells_side).since_begun files (there, there')) [
+            | inl between ↦ few_ran r a Happened hap steps from files crash between
+            | inr was ↦ none_left r a Happened hap steps from crash files was.0 (before was.0 (begins was.0 was.1)) (subst (λ (s : Bytes). OpenAlike s was.0 files) (sym (same r a Happened hap steps from).0) was.2)
+          ]
+
+    -- ---- what happened, by what the run did
+
+    is_of : (d : TheDid) → r.did ≡ d → (events these : List Event) → AreOfRun disk clock source sink link write events r d these → AreOfRun disk clock source sink link write events r r.did these
+    is_of d is events these x = subst (λ (d : TheDid). AreOfRun disk clock source sink link write events r d these) (sym is) x
+
+    lines_happened : (a : HasAnswered disk clock source sink r.log r.log' r.side r.side' r.input r.input' r.output r.output' r.clock_was r.clock_is r.status (λ room after b. InputAnswered (pair_of disk) clock source sink room after r.clock_was r.clock_is r.input r.input' r.output r.output' b 65 r.status))
+        → r.did ≡ Batch (inr a) → HasHappened r a.went (Answers disk clock source sink link line_input r a)
+    lines_happened a is = record {
+      shown = λ w same. batch_events disk clock source sink r.log r.log' r.side r.side' r.input r.input' r.output r.output' r.clock_was r.clock_is r.status a r.tells r.tells_side write w same;
+      leads = λ w events x. x.leads;
+      quiet = λ w events x. run_quiet line_input line_quiet clock source sink write w r.input r.input' r.output r.output' r.clock_was r.clock_is r.status _ _ events x;
+      of_run = is_of (Batch (inr a)) is;
+    }
+
+    wire_happened : (provider : Bytes) (a : HasAnswered disk clock source sink r.log r.log' r.side r.side' r.input r.input' r.output r.output' r.clock_was r.clock_is r.status (λ room after b. IngestAnswered (pair_of disk) clock source sink provider Text7901 room after r.clock_was r.clock_is r.input r.input' r.output r.output' b 65 r.status))
+        → r.did ≡ Ingest Text7901 provider (inr a) → HasHappened r a.went (Answers disk clock source sink link (wire_input provider) r a)
+    wire_happened provider a is = record {
+      shown = λ w same. wire_events disk clock source sink r.log r.log' r.side r.side' r.input r.input' r.output r.output' r.clock_was r.clock_is r.status provider a r.tells r.tells_side write w same;
+      leads = λ w events x. x.leads;
+      quiet = λ w events x. run_quiet (wire_input provider) (wire_quiet provider) clock source sink write w r.input r.input' r.output r.output' r.clock_was r.clock_is r.status _ _ events x;
+      of_run = is_of (Ingest Text7901 provider (inr a)) is;
+    }
+
+    item_happened : (provider : Bytes) (a : HasAnswered disk clock source sink r.log r.log' r.side r.side' r.input r.input' r.output r.output' r.clock_was r.clock_is r.status (λ room after b. IngestAnswered (pair_of disk) clock source sink provider Ninjs room after r.clock_was r.clock_is r.input r.input' r.output r.output' b 65 r.status))
+        → r.did ≡ Ingest Ninjs provider (inr a) → HasHappened r a.went (Answers disk clock source sink link (item_input provider) r a)
+    item_happened provider a is = record {
+      shown = λ w same. item_events disk clock source sink r.log r.log' r.side r.side' r.input r.input' r.output r.output' r.clock_was r.clock_is r.status provider a r.tells r.tells_side write w same;
+      leads = λ w events x. x.leads;
+      quiet = λ w events x. run_quiet (item_input provider) (item_quiet provider) clock source sink write w r.input r.input' r.output r.output' r.clock_was r.clock_is r.status _ _ events x;
+      of_run = is_of (Ingest Ninjs provider (inr a)) is;
+    }
+
+    drain_ran : (a : HasDrained disk clock sink r.log r.log' r.side r.side' r.output r.output' r.clock_was r.clock_is r.status link r.links r.links') → r.did ≡ Drain (inr a) → HasHappened r a.went (Pushes disk clock source sink link r a)
+    drain_ran a is = record {
+      shown = λ w same.
+          let stores = one_history store a.went.opened.store long a.went.opened.long (disk.seen r.log, disk.seen r.side) list a.went.opened.history from.opens (a.went.opened.bytes r.tells r.tells_side) in
+          let did = drain_happened disk clock sink r.log r.log' r.side r.side' r.output r.output' r.clock_was r.clock_is r.status link r.links r.links' a r.tells r.tells_side w same in
+          (did.0, subst (λ (s : Bytes). Pushes disk clock source sink link r a (the_writer s) w did.0) (sym stores.0) did.1);
+      leads = λ w events x. x.leads;
+      quiet = λ w events x. drain_quiet write w _ _ _ _ events x;
+      of_run = is_of (Drain (inr a)) is;
+    }
+
+    report_ran : (q : Query) (report : History → Bytes) (a : HasReported disk clock sink r.log r.log' r.side r.side' r.output r.output' r.clock_was r.clock_is r.status report) (d : TheDid) → r.did ≡ d
+        → ((before events : List Event) → AreOfGoing disk clock source sink link (Reports disk clock source sink link q report r a) r write before events → AreOfRun disk clock source sink link write before r d events)
+        → HasHappened r a.went (Reports disk clock source sink link q report r a)
+    report_ran q report a d is of = record {
+      shown = λ w same. report_happened disk clock sink q report r.log r.log' r.side r.side' r.output r.output' r.clock_was r.clock_is r.status a r.tells r.tells_side write w same;
+      leads = λ w events x. x.leads;
+      quiet = λ w events x. report_quiet clock sink q report write w r.output r.output' r.clock_was r.clock_is r.status _ _ events x;
+      of_run = λ before events x. is_of d is before events (of before events x);
+    }
+
+    -- ---- by what the run did
+
+    left_now : (d : TheDid) → r.did ≡ d → (files : Files) → MayLeave disk r.log' r.side' files → Comes (Runs r ∷ steps) files
+    left_now (Init owner did) is files may =
+        as_before (λ v events. subst (λ (d : TheDid). AreOfRun disk clock source sink link v events r d events) (sym is) refl) files
+        (init_keeps disk store long r.log r.side list r.tells r.tells_side from.opens sink owner r.log' r.side' r.output r.output' r.status did files (counts_since disk r.log r.log' (init_time disk store long r.log r.side list r.tells r.tells_side from.opens sink owner r.log' r.side' r.output r.output' r.status did) r.side' files may))
+    left_now (Batch (inr a)) is files may = going_left a.went _ (lines_happened a is) files may
+    left_now (Ingest Text7901 provider (inr a)) is files may = going_left a.went _ (wire_happened provider a is) files may
+    left_now (Ingest Ninjs provider (inr a)) is files may = going_left a.went _ (item_happened provider a is) files may
+    left_now (Batch (inl refused)) is files may =
+        as_before (λ v events. subst (λ (d : TheDid). AreOfRun disk clock source sink link v events r d events) (sym is) refl) files
+        (refused_keeps disk store long r.log r.side list r.tells r.tells_side from.opens r.log' r.side' refused.why.why refused.why.refused files (counts_since disk r.log r.log' (refused.why.refused.crash r.tells r.tells_side).later r.side' files may))
+    left_now (Ingest Text7901 provider (inl refused)) is files may =
+        as_before (λ v events. subst (λ (d : TheDid). AreOfRun disk clock source sink link v events r d events) (sym is) refl) files
+        (refused_keeps disk store long r.log r.side list r.tells r.tells_side from.opens r.log' r.side' refused.why.why refused.why.refused files (counts_since disk r.log r.log' (refused.why.refused.crash r.tells r.tells_side).later r.side' files may))
+    left_now (Ingest Ninjs provider (inl refused)) is files may =
+        as_before (λ v events. subst (λ (d : TheDid). AreOfRun disk clock source sink link v events r d events) (sym is) refl) files
+        (refused_keeps disk store long r.log r.side list r.tells r.tells_side from.opens r.log' r.side' refused.why.why refused.why.refused files (counts_since disk r.log r.log' (refused.why.refused.crash r.tells r.tells_side).later r.side' files may))
+    left_now (Feed subscriber after (inr a)) is files may = going_left a.went _ (report_ran (query.Feed subscriber after) (feed_report_at subscriber after) a (Feed subscriber after (inr a)) is (λ before events x. x)) files may
+    left_now (Queue (inr a)) is files may = going_left a.went _ (report_ran query.Queue queue_report_at a (Queue (inr a)) is (λ before events x. x)) files may
+    left_now (Feed subscriber after (inl refused)) is files may =
+        as_before (λ v events. subst (λ (d : TheDid). AreOfRun disk clock source sink link v events r d events) (sym is) refl) files
+        (refused_keeps disk store long r.log r.side list r.tells r.tells_side from.opens r.log' r.side' refused.why.why refused.why.refused files (counts_since disk r.log r.log' (refused.why.refused.crash r.tells r.tells_side).later r.side' files may))
+    left_now (Queue (inl refused)) is files may =
+        as_before (λ v events. subst (λ (d : TheDid). AreOfRun disk clock source sink link v events r d events) (sym is) refl) files
+        (refused_keeps disk store long r.log r.side list r.tells r.tells_side from.opens r.log' r.side' refused.why.why refused.why.refused files (counts_since disk r.log r.log' (refused.why.refused.crash r.tells r.tells_side).later r.side' files may))
+    left_now (Drain (inr a)) is files may = going_left a.went _ (drain_ran a is) files may
+    left_now (Drain (inl refused)) is files may =
+        as_before (λ v events. subst (λ (d : TheDid). AreOfRun disk clock source sink link v events r d events) (sym is) refl) files
+        (refused_keeps disk store long r.log r.side list r.tells r.tells_side from.opens r.log' r.side' refused.why.why.why refused.why.why.refused files (counts_since disk r.log r.log' (refused.why.why.refused.crash r.tells r.tells_side).later r.side' files may))
+    left_now (Check (inl refused)) is files may =
+        as_before (λ v events. subst (λ (d : TheDid). AreOfRun disk clock source sink link v events r d events) (sym is) refl) files
+        (refused_keeps disk store long r.log r.side list r.tells r.tells_side from.opens r.log' r.side' refused.why refused.refused files (counts_since disk r.log r.log' (refused.refused.crash r.tells r.tells_side).later r.side' files may))
+    left_now (Check (inr c)) is files may =
+        as_before (λ v events. subst (λ (d : TheDid). AreOfRun disk clock source sink link v events r d events) (sym is) refl) files (
+          (disk.seen r.log, disk.seen r.side),
+          (disk.leaves_seen r.log r.tells, disk.leaves_seen r.side r.tells_side),
+          to_both store long (disk.seen r.log, disk.seen r.side) files list c.opened.store c.opened.long c.opened.history from.opens (c.opened.bytes r.tells r.tells_side) (c.files r.tells r.tells_side files (inr may.0, inr may.1)),
+        )
+    left_now (Pack (inl refused)) is files may =
+        as_before (λ v events. subst (λ (d : TheDid). AreOfRun disk clock source sink link v events r d events) (sym is) refl) files
+        (refused_keeps disk store long r.log r.side list r.tells r.tells_side from.opens r.log' r.side' refused.why refused.refused files (counts_since disk r.log r.log' (refused.refused.crash r.tells r.tells_side).later r.side' files may))
+    left_now (Pack (inr (inl p))) is files may =
+        as_before (λ v events. subst (λ (d : TheDid). AreOfRun disk clock source sink link v events r d events) (sym is) refl) files (
+          (disk.seen r.log, disk.seen r.side),
+          (disk.leaves_seen r.log r.tells, disk.leaves_seen r.side r.tells_side),
+          to_both store long (disk.seen r.log, disk.seen r.side) files list p.opened.store p.opened.long p.opened.history from.opens (p.opened.bytes r.tells r.tells_side) (p.files r.tells r.tells_side files (inr may.0, inr may.1)),
+        )
+    left_now (Pack (inr (inr p))) is files may =
+        as_before (λ v events. subst (λ (d : TheDid). AreOfRun disk clock source sink link v events r d events) (sym is) refl) files (
+          (disk.seen r.log, disk.seen r.side),
+          (disk.leaves_seen r.log r.tells, disk.leaves_seen r.side r.tells_side),
+          to_both store long (disk.seen r.log, disk.seen r.side) files list p.opened.store p.opened.long p.opened.history from.opens (p.opened.bytes r.tells r.tells_side) (p.files r.tells r.tells_side files may),
+        )
+
+    left_then : (d : TheDid) → r.did ≡ d → (r.crashed ≡ None → ⊥) → (files : Files) → LeftByRun disk clock source sink link r d files → Comes (Runs r ∷ steps) files
+    left_then (Init owner did) is crash files may =
+        as_before (λ v events. subst (λ (d : TheDid). AreOfRun disk clock source sink link v events r d events) (sym is) refl) files
+        (init_keeps disk store long r.log r.side list r.tells r.tells_side from.opens sink owner r.log' r.side' r.output r.output' r.status did files may)
+    left_then (Batch (inr a)) is crash files may = going_crashed a.went _ (lines_happened a is) files crash may
+    left_then (Ingest Text7901 provider (inr a)) is crash files may = going_crashed a.went _ (wire_happened provider a is) files crash may
+    left_then (Ingest Ninjs provider (inr a)) is crash files may = going_crashed a.went _ (item_happened provider a is) files crash may
+    left_then (Batch (inl refused)) is crash files may =
+        as_before (λ v events. subst (λ (d : TheDid). AreOfRun disk clock source sink link v events r d events) (sym is) refl) files
+        (refused_keeps disk store long r.log r.side list r.tells r.tells_side from.opens r.log' r.side' refused.why.why refused.why.refused files may)
+    left_then (Ingest Text7901 provider (inl refused)) is crash files may =
+        as_before (λ v events. subst (λ (d : TheDid). AreOfRun disk clock source sink link v events r d events) (sym is) refl) files
+        (refused_keeps disk store long r.log r.side list r.tells r.tells_side from.opens r.log' r.side' refused.why.why refused.why.refused files may)
+    left_then (Ingest Ninjs provider (inl refused)) is crash files may =
+        as_before (λ v events. subst (λ (d : TheDid). AreOfRun disk clock source sink link v events r d events) (sym is) refl) files
+        (refused_keeps disk store long r.log r.side list r.tells r.tells_side from.opens r.log' r.side' refused.why.why refused.why.refused files may)
+    left_then (Feed subscriber after (inr a)) is crash files may = going_crashed a.went _ (report_ran (query.Feed subscriber after) (feed_report_at subscriber after) a (Feed subscriber after (inr a)) is (λ before events x. x)) files crash may
+    left_then (Queue (inr a)) is crash files may = going_crashed a.went _ (report_ran query.Queue queue_report_at a (Queue (inr a)) is (λ before events x. x)) files crash may
+    left_then (Feed subscriber after (inl refused)) is crash files may =
+        as_before (λ v events. subst (λ (d : TheDid). AreOfRun disk clock source sink link v events r d events) (sym is) refl) files
+        (refused_keeps disk store long r.log r.side list r.tells r.tells_side from.opens r.log' r.side' refused.why.why refused.why.refused files may)
+    left_then (Queue (inl refused)) is crash files may =
+        as_before (λ v events. subst (λ (d : TheDid). AreOfRun disk clock source sink link v events r d events) (sym is) refl) files
+        (refused_keeps disk store long r.log r.side list r.tells r.tells_side from.opens r.log' r.side' refused.why.why refused.why.refused files may)
+    left_then (Drain (inr a)) is crash files may = going_crashed a.went _ (drain_ran a is) files crash may
+    left_then (Drain (inl refused)) is crash files may =
+        as_before (λ v events. subst (λ (d : TheDid). AreOfRun disk clock source sink link v events r d events) (sym is) refl) files
+        (refused_keeps disk store long r.log r.side list r.tells r.tells_side from.opens r.log' r.side' refused.why.why.why refused.why.why.refused files may)
+    left_then (Check (inl refused)) is crash files may =
+        as_before (λ v events. subst (λ (d : TheDid). AreOfRun disk clock source sink link v events r d events) (sym is) refl) files
+        (refused_keeps disk store long r.log r.side list r.tells r.tells_side from.opens r.log' r.side' refused.why refused.refused files may)
+    left_then (Check (inr c)) is crash files may =
+        as_before (λ v events. subst (λ (d : TheDid). AreOfRun disk clock source sink link v events r d events) (sym is) refl) files
+        (opened_keeps disk store long r.log r.side list r.tells r.tells_side from.opens c.room c.opened files
+        (subst (λ (d : D). disk.left_since d (disk.moment r.log) files.0) c.same may.0, subst (λ (d : D). disk.may_leave d files.1) c.same_side may.1))
+    left_then (Pack (inl refused)) is crash files may =
+        as_before (λ v events. subst (λ (d : TheDid). AreOfRun disk clock source sink link v events r d events) (sym is) refl) files
+        (refused_keeps disk store long r.log r.side list r.tells r.tells_side from.opens r.log' r.side' refused.why refused.refused files may)
+    left_then (Pack (inr (inl p))) is crash files may =
+        as_before (λ v events. subst (λ (d : TheDid). AreOfRun disk clock source sink link v events r d events) (sym is) refl) files
+        (elim may [
+          | inl opening_it ↦ opened_keeps disk store long r.log r.side list r.tells r.tells_side from.opens p.room p.opened files opening_it
+          | inr packing_it ↦ packed_within disk store long r.log r.side list r.tells r.tells_side from.opens p.room p.opened (log_disk p.pair) (side_disk p.pair) (p.packs r.tells r.tells_side).crash files packing_it
+        ])
+    left_then (Pack (inr (inr p))) is crash files may =
+        as_before (λ v events. subst (λ (d : TheDid). AreOfRun disk clock source sink link v events r d events) (sym is) refl) files
+        (elim may [
+          | inl opening_it ↦ opened_keeps disk store long r.log r.side list r.tells r.tells_side from.opens p.room p.opened files opening_it
+          | inr packing_it ↦ packed_within disk store long r.log r.side list r.tells r.tells_side from.opens p.room p.opened r.log' r.side' (p.packs_not r.tells r.tells_side).crash files packing_it
+        ])
+
+    pub run_more : (files : Files) (crashed : Option Files) → r.crashed ≡ crashed → MayCrash disk clock source sink link r crashed → IsLeftBy disk clock source sink link r crashed files → Comes (Runs r ∷ steps) files
+    run_more files None is may left = left_now r.did refl files left
+    run_more files (Some found) is may left = subst (Comes (Runs r ∷ steps)) (sym left) (left_then r.did refl (λ none. cc (sym is ∙ none)) found may)
