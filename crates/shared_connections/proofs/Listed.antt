@@ -1,0 +1,93 @@
+-- A turn of a room, said of its list alone.
+use Rattle.std.proofs.Common.{◌≡◌, inl, inr, ℕ, false, List, [], refl}
+use Rattle.std.proofs.lemmas.Bool.{false≢true}
+use Rattle.news_types.specs.declared.entry.Entry.{Entry}
+use Rattle.news_types.specs.declared.query.Query.{Query}
+use Rattle.news_types.specs.Books.{Book, onto}
+use Rattle.news_types.specs.Calls as call
+use Rattle.news_types.specs.Calls.{Call, Asked, Answer}
+use Rattle.news_types.specs.Server.{Server}
+use Rattle.news_io.specs.Keeper.{KeeperMeaning}
+use Rattle.room_lock.specs.Passes.{at}
+use Rattle.news_room.specs.Stands.{Stands}
+use Rattle.news_room.specs.Events.{Serves, IsEvent}
+use Rattle.news_room.specs.declared.room.Room.{Room}
+use Rattle.http_wire.specs.declared.request.HttpRequest.{HttpRequest}
+use Rattle.desk_routes.specs.declared.ask.HttpAsk.{HttpAsk}
+use Rattle.desk_routes.specs.declared.ask.HttpAsk.TheVariants as ask
+use Rattle.desk_routes.specs.declared.response.Response.{Response}
+use Rattle.feed_http.specs.declared.answers.HttpAnswer.{HttpAnswer}
+use Rattle.feed_http.specs.Turn.{Calls, AsksBehind, TicksAndAsks, AskEvents, RequestEvents, IsAnswer, IsAnswered}
+use Rattle.shared_connections.specs.Turns.{IsListEvent, CallsList, AsksListBehind, TicksAndAsksList, AskListEvents, RequestListEvents, IsAnsweredIn}
+
+-- the book whose keeper need not tell it
+abbrev untold : Book → Book
+untold b = record { store = b.store; told = false; list = b.list }
+
+module _ {K : Type 0} (keeper : KeeperMeaning K) where
+  stands_untold : (r : Room K) (b : Book) → Stands keeper r b → Stands keeper r (untold b)
+  stands_untold r b s = record { store_is = s.store_is; machine_for = s.machine_for; kept = s.kept; few = s.few; told = λ t. absurd (false≢true t) }
+
+  -- a server with its list is one that the room serves
+  serves_untold : (r : Room K) (b : Book) (c : Server) → c.list ≡ b.list → Serves keeper r (untold b) c
+  serves_untold r b c is = record { list_is = is; doubt = λ t. absurd (false≢true t) }
+
+  event_listed : (old new : Room K) (b : Book) (more : List Entry) (asked : Call) (now : ℕ) (answer : Answer) → IsEvent keeper old new (untold b) more asked now answer → IsListEvent b more asked now answer
+  event_listed old new b more asked now answer e = record {
+    fate = e.fate;
+    serves = λ c is. (e.serves c (serves_untold old b c is)).list_is;
+    answers = λ c is. e.answers c (serves_untold old b c is);
+  }
+
+  calls_listed : (old new : Room K) (b : Book) (more : List Entry) (asked : Call) (now : ℕ) (response : Response) → Calls keeper old new (untold b) more asked now response → CallsList b more asked now response
+  calls_listed old new b more asked now response e = record { answer = e.answer; event = event_listed old new b more asked now e.answer e.event; told = e.told }
+
+  behind_listed : (room : Room K) (b : Book) (question : Query) (now : ℕ) (answer : Answer) (response : Response) → AsksBehind keeper room (untold b) question now answer response → AsksListBehind b question now answer response
+  behind_listed room b question now call.Full response e = e
+  behind_listed room b question now call.Fault response e = e
+  behind_listed room b question now (call.Replied answered) response e = calls_listed room room b [] (Asked question) now response e
+  behind_listed room b question now (call.Kept n) response e = calls_listed room room b [] (Asked question) now response e
+  behind_listed room b question now call.Still response e = calls_listed room room b [] (Asked question) now response e
+  behind_listed room b question now (call.Job s k frame n) response e = calls_listed room room b [] (Asked question) now response e
+  behind_listed room b question now (call.Idle next) response e = calls_listed room room b [] (Asked question) now response e
+  behind_listed room b question now (call.Tells told) response e = calls_listed room room b [] (Asked question) now response e
+  behind_listed room b question now call.Memory response e = calls_listed room room b [] (Asked question) now response e
+
+  ticks_listed : (old new : Room K) (b : Book) (more : List Entry) (question : Query) (now : ℕ) (response : Response) → TicksAndAsks keeper old new (untold b) more question now response → TicksAndAsksList b more question now response
+  ticks_listed old new b more question now response e = record {
+    answer = e.answer;
+    event = event_listed old new b more call.Ticked now e.answer e.event;
+    asks = behind_listed new (onto more b) question now e.answer response e.asks;
+  }
+
+  asks_listed : (old new : Room K) (b : Book) (more : List Entry) (a : HttpAsk) (now : ℕ) (response : Response) → AskEvents keeper old new (untold b) more a now response → AskListEvents b more a now response
+  asks_listed old new b more (ask.Request caller number command) now response e = calls_listed old new b more (call.Requested caller number command) now response e
+  asks_listed old new b more (ask.Query question) now response e = ticks_listed old new b more question now response e
+  asks_listed old new b more (ask.Receipt subscriber n) now response e = calls_listed old new b more (call.Receipted subscriber n) now response e
+  asks_listed old new b more (ask.Ingest provider incoming) now response e = calls_listed old new b more (call.Ingested provider incoming) now response e
+
+  request_listed : (old new : Room K) (b : Book) (more : List Entry) (request : HttpRequest) (now : ℕ) (response : Response) → RequestEvents keeper old new (untold b) more request now response → RequestListEvents b more request now response
+  request_listed old new b more request now response (inl still) = inl still.none
+  request_listed old new b more request now response (inr e) = inr (e.0, e.1, asks_listed old new b more e.0.ask now response e.2)
+
+  -- a room's turn, between the numbers beside it
+  answer_listed : (old new : Room K) (b : Book) (more : List Entry) (request : HttpRequest) (now : ℕ) (answer : HttpAnswer) → IsAnswer keeper old new b more request now answer → IsAnswer keeper old new (untold b) more request now answer
+      → IsAnsweredIn (at b (keeper.faults old.keeper) (keeper.used old.keeper)) (at (onto more b) (keeper.faults new.keeper) (keeper.used new.keeper)) request now answer
+  answer_listed old new b more request now answer told other = record {
+    more = more;
+    book = refl;
+    came = told.turn.came;
+    events = request_listed old new b more request now answer.response other.turn.events;
+    stop = told.stop;
+  }
+
+  -- the work's turn, for each book
+  pub turn_listed : (old new : Room K) (request : HttpRequest) (now : ℕ) (answer : HttpAnswer) → IsAnswered keeper old now request answer new
+      → (more : List Entry) × ((b : Book) → Stands keeper old b → Stands keeper new (onto more b)
+      × IsAnsweredIn (at b (keeper.faults old.keeper) (keeper.used old.keeper)) (at (onto more b) (keeper.faults new.keeper) (keeper.used new.keeper)) request now answer)
+  turn_listed old new request now answer a = (
+    a.0,
+    λ b stands.
+        let told : IsAnswer keeper old new b a.0 request now answer = a.1 b stands in
+        let other : IsAnswer keeper old new (untold b) a.0 request now answer = a.1 (untold b) (stands_untold old b stands) in (told.turn.stands, answer_listed old new b a.0 request now answer told other),
+  )

@@ -1,0 +1,73 @@
+-- What a request's turn makes of a list, and the turn as events of the world.
+use Rattle.std.specs.Prelude.{◌≡◌, ◌⊎◌, ℕ, List, []}
+use Rattle.news_types.specs.declared.entry.Entry.{Entry}
+use Rattle.news_types.specs.declared.query.Query.{Query}
+use Rattle.news_types.specs.History.{last_stop}
+use Rattle.news_types.specs.Books.{Book, onto}
+use Rattle.news_types.specs.Calls.{Call, Requested, Ingested, Receipted, Ticked, Asked, Answer, Full, Fault, Fate}
+use Rattle.news_types.specs.Server.{Server, called, call_answer}
+use Rattle.feed_frames.specs.Writer.{the_writer}
+use Rattle.room_lock.specs.Passes.{At}
+use Rattle.news_room.specs.Beside.{Beside, beside}
+use Rattle.http_wire.specs.declared.request.HttpRequest.{HttpRequest}
+use Rattle.desk_routes.specs.declared.ask.HttpAsk.{HttpAsk}
+use Rattle.desk_routes.specs.declared.ask.HttpAsk.TheVariants as ask
+use Rattle.desk_routes.specs.declared.ask.Asking.{Asking}
+use Rattle.desk_routes.specs.declared.response.Response.{Response}
+use Rattle.feed_http.specs.declared.answers.HttpAnswer.{HttpAnswer}
+use Rattle.feed_http.specs.Outcome.{response_to, http, stop_behind}
+use Rattle.feed_http.specs.Turn.{IsTold, Comes, IsRead}
+
+-- ---- the events of a turn
+
+-- The call is an event of the world, of one fate: a server that has the book's list has the list with more then, and the world's answer is
+-- the one that was given, where publications are written as those of this store are.
+pub record IsListEvent (b : Book) (more : List Entry) (call : Call) (now : ℕ) (answer : Answer) : Type 0 where
+  pub fate : Fate
+  pub serves : (c : Server) → c.list ≡ b.list → (called c call now fate).list ≡ (onto more b).list
+  pub answers : (c : Server) → c.list ≡ b.list → call_answer (the_writer b.store) c call now fate ≡ answer
+
+-- a call, and the response to its answer
+pub record CallsList (b : Book) (more : List Entry) (call : Call) (now : ℕ) (response : Response) : Type 0 where
+  pub answer : Answer
+  pub event : IsListEvent b more call now answer
+  pub told : IsTold answer response
+
+-- the question behind a tick that was answered so: where the tick was refused nothing is asked
+abbrev pub AsksListBehind : Book → Query → ℕ → Answer → Response → Type 0
+AsksListBehind b question now Full response = response ≡ response_to Full
+AsksListBehind b question now Fault response = response ≡ response_to Fault
+AsksListBehind b question now answer response = CallsList b [] (Asked question) now response
+
+-- a tick, and then a question
+pub record TicksAndAsksList (b : Book) (more : List Entry) (question : Query) (now : ℕ) (response : Response) : Type 0 where
+  pub answer : Answer
+  pub event : IsListEvent b more Ticked now answer
+  pub asks : AsksListBehind (onto more b) question now answer response
+
+-- what is asked of the list
+abbrev pub AskListEvents : Book → List Entry → HttpAsk → ℕ → Response → Type 0
+AskListEvents b more (ask.Request caller number command) now response = CallsList b more (Requested caller number command) now response
+AskListEvents b more (ask.Query question) now response = TicksAndAsksList b more question now response
+AskListEvents b more (ask.Receipt subscriber n) now response = CallsList b more (Receipted subscriber n) now response
+AskListEvents b more (ask.Ingest provider incoming) now response = CallsList b more (Ingested provider incoming) now response
+
+-- the events of what the request asks, or nothing was asked
+abbrev pub RequestListEvents : Book → List Entry → HttpRequest → ℕ → Response → Type 0
+RequestListEvents b more request now response = (more ≡ []) ⊎ ((a : Asking) × IsRead request a × AskListEvents b more a.ask now response)
+
+-- ---- turns
+
+-- the numbers beside a turn, by what it found and what it left
+abbrev pub of_turn : At → At → Beside
+of_turn before after = beside before.faults before.used after.faults after.used
+
+-- What a request is answered in a turn, at a reading of the clock, by the list that the turn found: an outcome of the request came, beside the
+-- turn's own numbers, its entries are the turn's, and these were its events. The answer has the stop that the turn kept.
+pub record IsAnsweredIn (before after : At) (request : HttpRequest) (now : ℕ) (answer : HttpAnswer) : Type 0 where
+  -- the entries that the turn kept, oldest first
+  pub more : List Entry
+  pub book : after.book ≡ onto more before.book
+  pub came : Comes (of_turn before after) (http (the_writer before.book.store) before.book.list request now) more answer.response
+  pub events : RequestListEvents before.book more request now answer.response
+  pub stop : answer.stop ≡ stop_behind (last_stop before.book.list) (last_stop after.book.list)
