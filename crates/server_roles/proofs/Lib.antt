@@ -1,0 +1,5 @@
+mod Halting
+mod Connecting
+mod Receiving
+mod Zips
+mod Longer

@@ -1,0 +1,5 @@
+pub mod Halts
+pub mod Conns
+pub mod Firsts
+pub mod Teams
+pub mod Ends
