@@ -9,9 +9,14 @@ use news_types::{Memory, Name, Names, Text};
 use std::alloc::Global;
 use std::io::{self, ErrorKind, Read, Write};
 use std::net::{Net, TcpStream};
+use std::time::Duration;
+
+/// How long one read or write over a connection may wait, in seconds.
+const PATIENCE: u64 = 30;
 
 /// A link to receivers over TCP, by their addresses. A connection is made at the first send to a subscriber and kept.
-/// One whose call failed, or whose reply ended without a line feed, is closed, and the next send makes another.
+/// One whose call failed, or whose reply ended without a line feed, is closed, and the next send makes another. A receiver that
+/// takes or gives no byte for 30 seconds fails the call.
 /// It tells nothing of its frames and replies.
 #[derive(Drop)]
 pub struct TcpLink<R> {
@@ -26,6 +31,15 @@ pub struct TcpLink<R> {
 struct Peer {
     address: Text,
     stream: Option<TcpStream>,
+}
+
+/// Connects to an address. A read or a write that waits too long fails.
+fn connect<R: Net<Stream = TcpStream>>(rt: &R, address: &str) -> io::Result<TcpStream> {
+    let stream = TcpStream::connect(rt, address)?;
+    let patience = Some(Duration::from_secs(PATIENCE));
+    stream.set_read_timeout(patience)?;
+    stream.set_write_timeout(patience)?;
+    Ok(stream)
 }
 
 /// The next byte, or nothing at the end. A read that a signal cut short is made again.
@@ -64,7 +78,7 @@ impl Peer {
     fn send<R: Net<Stream = TcpStream>>(&mut self, rt: &R, frame: &[u8]) -> io::Result<()> {
         let mut stream = match self.stream.take() {
             Some(stream) => stream,
-            None => TcpStream::connect(rt, self.address.as_str())?,
+            None => connect(rt, self.address.as_str())?,
         };
         stream.write_all(frame)?;
         self.stream = Some(stream);

@@ -13,7 +13,7 @@ pub enum Status {
     /// The words are no command.
     Usage,
     /// The log is empty where one is wanted, or a file holds something where none does; or they are not a newsroom's log and
-    /// its side.
+    /// its side, or not this receiver's log.
     WrongStore,
     /// The input failed.
     Input,

@@ -7,9 +7,14 @@ use news_types::Text;
 use std::alloc::Global;
 use std::io::{self, ErrorKind};
 use std::net::{Net, TcpListener, TcpStream};
+use std::time::Duration;
+
+/// How long one read or write over a connection may wait, in seconds.
+const PATIENCE: u64 = 30;
 
 /// A door that listens at an address, from its first call on. A connection is closed where it is given back. It tells
-/// nothing of its connections.
+/// nothing of its connections. A client that gives or takes no byte for 30 seconds fails the read or the write, so that it
+/// doesn't hold up those behind it.
 #[derive(Drop)]
 pub struct TcpDoor<R> {
     alloc: Global,
@@ -44,6 +49,9 @@ fn ends_of(
     alloc: Global,
     stream: TcpStream,
 ) -> io::Result<(StdSource<TcpStream>, StdSink<TcpStream>)> {
+    let patience = Some(Duration::from_secs(PATIENCE));
+    stream.set_read_timeout(patience)?;
+    stream.set_write_timeout(patience)?;
     let output = stream.try_clone()?;
     let Ok(source) = StdSource::new(alloc, stream) else {
         return Err(out_of_memory());
