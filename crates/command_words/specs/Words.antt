@@ -10,6 +10,7 @@ use Rattle.news_types.specs.declared.words.Format.TheVariants.{Ninjs, Text7901}
 use Rattle.news_types.specs.Names.{Bytes, same, is_name}
 use Rattle.command_words.specs.declared.words.Job.{Job}
 use Rattle.command_words.specs.declared.words.Job.TheVariants.{Init, Batch, Ingest, Feed, Queue, Drain, Receive, Drill, Check, Pack}
+use Rattle.command_words.specs.declared.serving.Serving.{Serving}
 
 -- of two words
 abbrev pub short_job : Bytes → Option Job
@@ -107,3 +108,28 @@ job_by verb words = None
 abbrev pub job_of : List Bytes → Option Job
 job_of (verb ∷ first ∷ words) = if same verb (codes "drain") then drain_job words else (if same verb (codes "drill") then drill_job first words else job_by verb words)
 job_of words = None
+
+-- what a server is to do: where it listens, how many workers push the feeds, and the names and addresses of the receivers by turns
+pub record Service : Type 0 where
+  pub address : Bytes
+  pub workers : ℕ
+  pub receivers : List Bytes
+
+-- the service that the program's own value asks for
+abbrev pub service_of : Serving → Service
+service_of serving = record { address = serving.address.now; workers = serving.workers; receivers = serving.receivers.now }
+
+-- from 1 to 16 workers
+abbrev pub workers_of : Option ℕ → Option ℕ
+workers_of (Some workers) = if nat_lt 0 workers && nat_le workers 16 then Some workers else None
+workers_of None = None
+
+-- to serve at this address, by so many workers, for the receivers that these words name
+abbrev pub service_by : Bytes → Option ℕ → List Bytes → Option Service
+service_by address (Some workers) receivers = if are_pairs receivers then Some (record { address = address; workers = workers; receivers = receivers }) else None
+service_by address None receivers = None
+
+-- `serve STORE ADDRESS WORKERS` with pairs of a NAME and an ADDRESS; a store and an address are any words
+abbrev pub serving_of : List Bytes → Option Service
+serving_of (verb ∷ store ∷ address ∷ workers ∷ receivers) = if same verb (codes "serve") then service_by address (workers_of (number_of workers)) receivers else None
+serving_of words = None

@@ -28,6 +28,10 @@ const DRAIN: &str =
     "newsdesk drain STORE NAME ADDRESS ..    send what is due to these receivers, each with its host and port, until nothing is
 ";
 
+const SERVE: &str =
+    "newsdesk serve STORE ADDRESS WORKERS NAME ADDRESS ..    answer requests over HTTP at ADDRESS, a host and a port, and push what is due to these receivers, each with its host and port, by so many workers, until a stop
+";
+
 const RECEIVE: &str =
     "newsdesk receive STORE NAME             take the frames of standard input as the receiver of this name, keep them, and write a receipt for each
 ";
@@ -60,9 +64,9 @@ to the output too, as {\"status\":7} with the place of the damage.
 ";
 
 /// How the program is used, for `--help`: texts, to be written one behind the other. Each command has a line.
-pub fn help_texts() -> [&'static str; 12] {
+pub fn help_texts() -> [&'static str; 13] {
     [
-        HEAD, INIT, BATCH, INGEST, FEED, QUEUE, DRAIN, RECEIVE, CHECK, PACK, DRILL, TAIL,
+        HEAD, INIT, BATCH, INGEST, FEED, QUEUE, DRAIN, SERVE, RECEIVE, CHECK, PACK, DRILL, TAIL,
     ]
 }
 
@@ -75,6 +79,7 @@ pub fn command_help(command: &str) -> Option<&'static str> {
         "feed" => Some(FEED),
         "queue" => Some(QUEUE),
         "drain" => Some(DRAIN),
+        "serve" => Some(SERVE),
         "receive" => Some(RECEIVE),
         "check" => Some(CHECK),
         "pack" => Some(PACK),

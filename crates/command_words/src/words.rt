@@ -79,7 +79,7 @@ fn drain_job(pairs: &[Text]) -> Option<Job>
 }
 
 /// Whether these are names and addresses by turns, no name twice.
-fn are_pairs(words: &[Text]) -> bool
+pub(crate) fn are_pairs(words: &[Text]) -> bool
     ensures { result ≡ spec.are_pairs words.now }
 {
     match words {
@@ -222,7 +222,7 @@ fn leads_with_zero(word: &[u8]) -> bool
 }
 
 /// The number that the word is, if it is one below 4294967296, in decimal without a sign and without leading zeros.
-fn read_number(word: &str) -> Option<u32>
+pub(crate) fn read_number(word: &str) -> Option<u32>
     ensures { result ≡ number_of word.now }
 {
     let digits = word.as_bytes();
