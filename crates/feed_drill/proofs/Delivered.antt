@@ -1,10 +1,10 @@
 -- A drain at one moment that ended with none ready, none lost and none refused.
-use Rattle.std.proofs.Common.{◌≡◌, ◌+◌, inl, ℕ, false, List, [], ◌∷◌, ◌++◌, min, get_or, sym, ap, ◌∙◌, subst, arith}
+use Rattle.std.proofs.Common.{◌≡◌, ◌+◌, inl, ℕ, false, List, [], ◌∷◌, ◌++◌, sym, ◌∙◌, subst}
 use Rattle.news_types.specs.declared.entry.Entry.{Entry}
 use Rattle.news_types.specs.Members.{Each}
 use Rattle.news_types.specs.History.{moment_at}
 use Rattle.news_types.specs.Books.{Book, onto}
-use Rattle.news_io.specs.Clock.{Gave, shown}
+use Rattle.news_io.specs.Clock.{Gave}
 use Rattle.news_io.specs.Devices.{memory_keeper}
 use Rattle.news_io.specs.Link.{Goes}
 use Rattle.news_io.specs.declared.memory_keeper.MemoryKeeper.{MemoryKeeper}
@@ -24,11 +24,6 @@ use Rattle.publish_workers.proofs.Receiving.{receivers_hold_all}
 use Rattle.feed_drill.specs.Delivery.{IsDelivered}
 
 -- ---- the readings of a clock that stands
-
-pub stands_still : (reading : ℕ) (readings : List ℕ) (k : ℕ) → readings ≡ reading ∷ [] → shown readings 0 k ≡ reading
-stands_still reading readings k is =
-    let first : min (0 + k) 0 ≡ 0 = omega arith in
-    ap (λ (l : List ℕ). shown l 0 k) is ∙ ap (λ (i : ℕ). get_or (reading ∷ []) i 0) first
 
 given_same : (reading : ℕ) (ahead later : ℕ → ℕ) (readings : List ℕ) → ((k : ℕ) → ahead k ≡ reading) → Gave ahead readings later → Each (λ (r : ℕ). r ≡ reading) readings
 given_same reading ahead later [] still gave = tt

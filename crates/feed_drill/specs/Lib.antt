@@ -1,4 +1,5 @@
 pub mod Nowhere
+pub mod Standing
 pub mod Requests
 pub mod Report
 pub mod Delivery

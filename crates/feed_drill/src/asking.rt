@@ -7,7 +7,7 @@ ghost use Rattle.feed_drill.specs.Requests.{asked, given, with_list};
 
 use crate::stopped::Stopped;
 use drill_plan::{Plan, Planned};
-use news_io::Keeper;
+use news_io::{Clock, Keeper};
 use news_room::{Handled, Room};
 
 /// Asks a planned request, at its moment.
@@ -29,12 +29,17 @@ fn ask<K: Keeper>(room: &mut Room<K>, planned: Planned) -> Result<(), Stopped>
     }
 }
 
-/// Asks all requests of a plan, each at its moment.
-pub(crate) fn ask_all<K: Keeper>(room: &mut Room<K>, mut plan: Plan) -> Result<(), Stopped>
+/// Asks all requests of a plan, each at its moment. The clock is read once for each, and shows nothing that is used.
+pub(crate) fn ask_all<K: Keeper, C: Clock>(
+    room: &mut Room<K>,
+    mut plan: Plan,
+    clock: &mut C,
+) -> Result<(), Stopped>
     requires stands { SomeBook K.keeper room.old }
     ensures { (b : Book) → Stands K.keeper room.old b → OnOk result (Stands K.keeper room.new (with_list (given b.list plan) b)) }
 {
     while let Some(planned) = plan.next()? {
+        clock.now();
         ask(room, planned)?;
     }
     Ok(())

@@ -14,7 +14,7 @@ use crate::delivery::{deliver, link_to_all};
 use crate::report::report_text;
 use crate::stopped::Stopped;
 use drill_plan::Plan;
-use news_io::{MemoryKeeper, Sink, write_through};
+use news_io::{Clock, MemoryKeeper, Sink, write_through};
 use news_room::Room;
 use news_types::{Answer, Bytes, Memory, Query, QueueRows};
 use run_status::Status;
@@ -42,14 +42,20 @@ fn queue_of(room: &Room<MemoryKeeper>) -> Result<QueueRows, Memory>
     }
 }
 
-/// The report of a drill of so many stories with this seed.
-fn drill(alloc: Global, stories: u32, seed: u64) -> Result<Bytes, Stopped>
+/// The report of a drill of so many stories with this seed. The clock is read as the drill goes on.
+fn drill<C: Clock>(alloc: Global, stories: u32, seed: u64, clock: &mut C) -> Result<Bytes, Stopped>
     ensures { IfOk result (λ bytes. (h : History) × (held : List Received) × IsDrill stories seed h held × (bytes ≡ drill_report h held)) }
 {
     let mut room = open_room(alloc)?;
-    ask_all(&mut room, Plan::new(alloc, stories, seed)?)?;
+    ask_all(&mut room, Plan::new(alloc, stories, seed)?, clock)?;
     let mut link = link_to_all(alloc, queue_of(&room)?.as_slice())?;
-    deliver(alloc, &mut room, &mut link, 1100 + u64::from(stories))?;
+    deliver(
+        alloc,
+        &mut room,
+        &mut link,
+        clock,
+        1100 + u64::from(stories),
+    )?;
     let rows = queue_of(&room)?;
     Ok(report_text(alloc, room.front(), rows.as_slice(), &link)?)
 }
@@ -58,12 +64,22 @@ fn drill(alloc: Global, stories: u32, seed: u64) -> Result<Bytes, Stopped>
 /// receivers in memory, and prints a report: how many entries the list has, and for each subscriber how long its feed is, how
 /// many of its entries are acknowledged, and how many frames its receiver holds.
 ///
+/// The drill's moments are its own, in seconds from the first of its plan on: no reading of the clock is used. It is read once for
+/// each planned request, before it is asked, and once or twice in each turn of the delivery, so that who passes it can tell by its
+/// readings that the drill goes on.
+///
 /// Status 0 comes where the report was printed, 5 where the output failed at it. Without memory it is 9, and 8 where an entry
 /// would pass the limit of the log: then nothing is printed.
-pub fn run_drill<O: Sink>(alloc: Global, stories: u32, seed: u64, output: &mut O) -> Status
+pub fn run_drill<O: Sink, C: Clock>(
+    alloc: Global,
+    stories: u32,
+    seed: u64,
+    clock: &mut C,
+    output: &mut O,
+) -> Status
     ensures { Drills O.sink stories seed output.old output.new result }
 {
-    let report = match drill(alloc, stories, seed) {
+    let report = match drill(alloc, stories, seed, clock) {
         Ok(report) => report,
         Err(Stopped::Full) => return Status::Full,
         Err(Stopped::Memory) => return Status::Memory,

@@ -6,6 +6,7 @@ mod delivery;
 mod drill;
 mod nowhere;
 mod report;
+mod standing;
 mod stopped;
 
 pub use drill::run_drill;

@@ -1,7 +1,7 @@
 //! Drills: one by hand, one twice, and a large one.
 
 use crate::run_drill;
-use news_io::MemorySink;
+use news_io::{MemoryClock, MemorySink};
 use run_status::Status;
 use std::alloc::Global;
 use std::test::Fail;
@@ -11,7 +11,11 @@ use std::test::Fail;
 fn a_story_of_urgency_8_reaches_two(rt: HostRuntime) -> Result<(), Fail> {
     let alloc = rt.alloc();
     let mut output = MemorySink::new(alloc);
-    assert_eq!(rt; run_drill(alloc, 1, 0, &mut output), Status::Done);
+    let mut clock = MemoryClock::new(vec![in alloc; 0]?);
+    assert_eq!(rt;
+        run_drill(alloc, 1, 0, &mut clock, &mut output),
+        Status::Done
+    );
     assert_eq!(rt;
         output.as_bytes(),
         b"entries 42\n\
@@ -31,7 +35,8 @@ s7 length 1 acked 1 receiver 1\n"
 /// What a drill prints.
 fn printed(alloc: Global, stories: u32, seed: u64) -> Result<MemorySink, Fail> {
     let mut output = MemorySink::new(alloc);
-    if run_drill(alloc, stories, seed, &mut output) != Status::Done {
+    let mut clock = MemoryClock::new(vec![in alloc; 0]?);
+    if run_drill(alloc, stories, seed, &mut clock, &mut output) != Status::Done {
         return Err(Fail::new("not done"));
     }
     Ok(output)

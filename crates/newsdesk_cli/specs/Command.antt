@@ -267,7 +267,8 @@ module _ {D O S C L : Type 0} (disk : DiskMeaning D) (clock : ClockMeaning C) (s
   Does (Some Queue) = (i' ≡ i) × IsReportOf disk clock sink log log' side side' o o' c c' status queue_report_at
   Does (Some Drain) = (i' ≡ i) × IsDrain disk clock sink log log' side side' o o' c c' status link l l'
   Does (Some (Receive name)) = (c' ≡ c) × (side' ≡ side) × IsReceive disk source sink name log log' i i' o o' status
-  Does (Some (Drill stories seed)) = Unread × (log' ≡ log) × (side' ≡ side) × IsDrilled sink stories seed o o' status
+  -- it reads the clock, and uses no reading
+  Does (Some (Drill stories seed)) = (i' ≡ i) × (log' ≡ log) × (side' ≡ side) × IsDrilled sink stories seed o o' status
   Does (Some (Ingest format provider)) = IsIngest disk clock source sink log log' side side' i i' o o' c c' status format provider
 
 -- the files are not refused for their bytes, and a failure is told only where the count of the disks rose

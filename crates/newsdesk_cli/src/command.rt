@@ -83,7 +83,7 @@ fn do_job<S: Source, O: Sink, D: Disk, C: Clock, L: Link>(
         Job::Queue => queue(alloc, output, log, side, clock),
         Job::Drain => drain(alloc, output, log, side, clock, links),
         Job::Receive(name) => receive(alloc, input, output, log, side, name),
-        Job::Drill { stories, seed } => drill(alloc, output, log, side, stories, seed),
+        Job::Drill { stories, seed } => drill(alloc, output, log, side, clock, stories, seed),
         Job::Check => check(alloc, output, log, side),
         Job::Pack => pack(alloc, output, log, side),
     }
@@ -251,20 +251,22 @@ fn receive<S: Source, O: Sink, D: Disk>(
     (status, log, side)
 }
 
-/// Drills a newsroom in memory, and tells how that ended. The files are left alone.
+/// Drills a newsroom in memory, and tells how that ended. The files are left alone; the clock is read as the drill goes on, and no
+/// reading is used.
 #[tactic(none)]
-fn drill<O: Sink, D: Disk>(
+fn drill<O: Sink, D: Disk, C: Clock>(
     alloc: Global,
     output: &mut O,
     log: D,
     side: D,
+    clock: &mut C,
     stories: u32,
     seed: u64,
 ) -> (u8, D, D)
     ensures drilled { IsDrilled O.sink stories seed output.old output.new result.0 }
     ensures files { (result.1 ≡ log) × (result.2 ≡ side) }
 {
-    let ended = run_drill(alloc, stories, seed, output);
+    let ended = run_drill(alloc, stories, seed, clock, output);
     let status = tell_status(output, ended);
     (status, log, side)
 }

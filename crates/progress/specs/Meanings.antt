@@ -1,4 +1,5 @@
 -- What is watched means what it is made of.
+use Rattle.news_io.specs.Clock.{ClockMeaning}
 use Rattle.news_io.specs.Disk.{DiskMeaning}
 use Rattle.news_io.specs.Source.{SourceMeaning}
 use Rattle.progress.specs.declared.watched.Watched.{Watched}
@@ -23,4 +24,10 @@ watched_disk disk = record {
   leaves_seen = λ w tells. disk.leaves_seen w.inner tells;
   no_longer = λ w c tells left. disk.no_longer w.inner c tells left;
   only_now = λ w c left. disk.only_now w.inner c left;
+}
+
+abbrev pub watched_clock : {C R : Type 0} → ClockMeaning C → ClockMeaning (Watched C R)
+watched_clock clock = record {
+  tells = λ w. clock.tells w.inner;
+  ahead = λ w. clock.ahead w.inner;
 }

@@ -5,29 +5,32 @@ use std::time::{Clock, Duration, Instant};
 /// How long a line stands before the next one is shown, in milliseconds.
 const PAUSE: u128 = 1000;
 
-/// What is read.
+/// What is counted.
 #[derive(Clone, Copy, Debug, PartialEq, Eq)]
 pub enum Content {
-    /// Lines: their number is shown beside their bytes.
+    /// Lines that are read: their number is shown beside their bytes.
     Lines,
-    /// Bytes without lines.
+    /// Bytes that are read, without lines.
     Binary,
+    /// Steps of work that reads nothing.
+    Steps,
 }
 
-/// Counts what was read, and shows it on standard error at most once a second.
+/// Counts what was read, or the steps of work, and shows it on standard error at most once a second.
 #[derive(Drop)]
 pub struct Meter<R> {
     rt: R,
     content: Content,
     bytes: u64,
     lines: u64,
+    steps: u64,
     began: Option<Instant>,
     shown: Option<Instant>,
 }
 
-/// The whole bytes in a second, of so many in so long.
-fn rate(bytes: u64, time: Duration) -> u64 {
-    bytes / time.as_secs().max(1)
+/// The whole number in a second, of so many in so long.
+fn rate(count: u64, time: Duration) -> u64 {
+    count / time.as_secs().max(1)
 }
 
 impl<R: Clock + Eprint> Meter<R> {
@@ -39,6 +42,7 @@ impl<R: Clock + Eprint> Meter<R> {
             content,
             bytes: 0,
             lines: 0,
+            steps: 0,
             began,
             shown: began,
         }
@@ -51,6 +55,12 @@ impl<R: Clock + Eprint> Meter<R> {
             let ends = bytes.iter().filter(|byte| **byte == b'\n').count();
             self.lines = self.lines.saturating_add(ends as u64);
         }
+        self.show_late();
+    }
+
+    /// Counts a step, and shows how many were counted where a second has passed.
+    pub fn step(&mut self) {
+        self.steps = self.steps.saturating_add(1);
         self.show_late();
     }
 
@@ -67,16 +77,24 @@ impl<R: Clock + Eprint> Meter<R> {
         }
         self.shown = Some(now);
         let time = now.duration_since(began);
-        let rate = rate(self.bytes, time);
         // Each line takes the place of the one before: the codes go to its start and erase it.
         let _ = match self.content {
             Content::Lines => eprint!(self.rt;
                 "\r\x1b[K{} lines, {} bytes, {} bytes a second",
-                self.lines, self.bytes, rate
+                self.lines,
+                self.bytes,
+                rate(self.bytes, time)
             ),
-            Content::Binary => {
-                eprint!(self.rt; "\r\x1b[K{} bytes, {} bytes a second", self.bytes, rate)
-            }
+            Content::Binary => eprint!(self.rt;
+                "\r\x1b[K{} bytes, {} bytes a second",
+                self.bytes,
+                rate(self.bytes, time)
+            ),
+            Content::Steps => eprint!(self.rt;
+                "\r\x1b[K{} steps, {} steps a second",
+                self.steps,
+                rate(self.steps, time)
+            ),
         };
     }
 

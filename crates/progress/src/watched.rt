@@ -1,18 +1,18 @@
-//! A source or a disk whose bytes are counted. It means what it is made of.
+//! A source or a disk whose bytes are counted, or a clock whose readings are. It means what it is made of.
 ghost use Rattle.std.specs.Prelude.{◌≡◌};
 
 use crate::Meter;
-use news_io::{Disk, Failed, Source};
-use std::time::Clock;
+use news_io::{Clock, Disk, Failed, Source};
+use std::time::Clock as SystemClock;
 
-/// What is watched, with a meter of the bytes that are read from it, where one is wanted.
+/// What is watched, with a meter of the bytes that are read from it, or of a clock's readings, where one is wanted.
 #[derive(Drop)]
 pub struct Watched<T, R> {
     pub inner: T,
     meter: Option<Meter<R>>,
 }
 
-impl<T, R: Clock + Eprint> Watched<T, R> {
+impl<T, R: SystemClock + Eprint> Watched<T, R> {
     /// Watches it.
     pub fn new(inner: T, meter: Option<Meter<R>>) -> Watched<T, R>
         ensures { result.inner ≡ inner }
@@ -29,6 +29,15 @@ impl<T, R: Clock + Eprint> Watched<T, R> {
         }
     }
 
+    // Counts a step.
+    fn step(&mut self)
+        ensures { self.new.inner ≡ self.old.inner }
+    {
+        if let Some(meter) = &mut self.meter {
+            meter.step();
+        }
+    }
+
     /// Whether a line was shown.
     pub fn has_shown(&self) -> bool {
         match &self.meter {
@@ -38,7 +47,7 @@ impl<T, R: Clock + Eprint> Watched<T, R> {
     }
 }
 
-impl<S: Source, R: Clock + Eprint> Source for Watched<S, R> {
+impl<S: Source, R: SystemClock + Eprint> Source for Watched<S, R> {
     ghost use Rattle.progress.specs.Meanings.{watched_source};
 
     ghost source = { watched_source S.source };
@@ -50,7 +59,7 @@ impl<S: Source, R: Clock + Eprint> Source for Watched<S, R> {
     }
 }
 
-impl<D: Disk, R: Clock + Eprint> Disk for Watched<D, R> {
+impl<D: Disk, R: SystemClock + Eprint> Disk for Watched<D, R> {
     ghost use Rattle.progress.specs.Meanings.{watched_disk};
 
     ghost disk = { watched_disk D.disk };
@@ -71,5 +80,21 @@ impl<D: Disk, R: Clock + Eprint> Disk for Watched<D, R> {
 
     fn sync(&mut self) -> Result<(), Failed> {
         self.inner.sync()
+    }
+}
+
+impl<C: Clock, R: SystemClock + Eprint> Clock for Watched<C, R> {
+    ghost use Rattle.progress.specs.Meanings.{watched_clock};
+
+    ghost clock = { watched_clock C.clock };
+
+    /// Each reading is a step.
+    fn now(&mut self) -> u64 {
+        self.step();
+        self.inner.now()
+    }
+
+    fn rest(&mut self) {
+        self.inner.rest()
     }
 }

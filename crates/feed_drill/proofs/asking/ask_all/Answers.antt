@@ -4,6 +4,12 @@ use Rattle.feed_drill.specs.Requests.{asked, given, with_list}
 use Rattle.feed_drill.proofs.Asked.{given_next}
 use Rattle.feed_drill.proofs.asking.ask_all.Goals as goal
 
+pub ask-requires-clause-stands : goal.ask-requires-clause-stands
+ask-requires-clause-stands g c =
+    let start = c.requires.stands in
+    let so_far = c.loop-plan.invariant start.0 start.1 in
+    (with_list so_far.0 start.0, so_far.1)
+
 pub loop-plan-preserved : goal.loop-plan-preserved
 loop-plan-preserved g c = λ b is.
     let p = c.in-Some.planned in

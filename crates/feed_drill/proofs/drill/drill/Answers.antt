@@ -9,23 +9,23 @@ use Rattle.feed_drill.proofs.Drilled.{is_drill, reported}
 use Rattle.feed_drill.proofs.drill.drill.Goals as goal
 
 pub ask_all-requires : goal.ask_all-requires
-ask_all-requires c = let opened = c.in_ok-room.ensures in record { stands = (opened.0, opened.1) }
+ask_all-requires g c = let opened = c.in_ok-room.ensures in record { stands = (opened.0, opened.1) }
 
 pub queue_of-requires : goal.queue_of-requires
-queue_of-requires c = let opened = c.in_ok-room.ensures in record { stands = (with_list (given opened.0.list c.in_ok-new.field-0) opened.0, c.in_ok-ask_all.ensures opened.0 opened.1) }
+queue_of-requires g c = let opened = c.in_ok-room.ensures in record { stands = (with_list (given opened.0.list c.in_ok-new.field-0) opened.0, c.in_ok-ask_all.ensures opened.0 opened.1) }
 
 pub deliver-requires : goal.deliver-requires
-deliver-requires c = let opened = c.in_ok-room.ensures in record { stands = (with_list (given opened.0.list c.in_ok-new.field-0) opened.0, c.in_ok-ask_all.ensures opened.0 opened.1) }
+deliver-requires g c = let opened = c.in_ok-room.ensures in record { stands = (with_list (given opened.0.list c.in_ok-new.field-0) opened.0, c.in_ok-ask_all.ensures opened.0 opened.1) }
 
 pub queue_of-requires-2 : goal.queue_of-requires-2
-queue_of-requires-2 c =
+queue_of-requires-2 g c =
     let opened = c.in_ok-room.ensures in
     let b : Book = with_list (given opened.0.list c.in_ok-new.field-0) opened.0 in
     let done = c.in_ok-deliver.ensures b (map empty (names_of c.in_ok-link.link)) (c.in_ok-ask_all.ensures opened.0 opened.1) c.in_ok-link.ensures.holds in
     record { stands = (onto done.more b, done.stands) }
 
 pub returns : goal.returns
-returns c =
+returns g c =
     let opened = c.in_ok-room.ensures in
     let b : Book = with_list (given opened.0.list c.in_ok-new.field-0) opened.0 in
     let done = c.in_ok-deliver.ensures b (map empty (names_of c.in_ok-link.link)) (c.in_ok-ask_all.ensures opened.0 opened.1) c.in_ok-link.ensures.holds in

@@ -65,7 +65,7 @@ pub returns-in-Receive-clause-receives : goal.returns-in-Receive-clause-receives
 returns-in-Receive-clause-receives g c told = rw c.in-Receive.is (λ frames gives. c.receive.ensures.serves told frames gives)
 
 pub returns-in-Drill-clause-does : goal.returns-in-Drill-clause-does
-returns-in-Drill-clause-does g c = rw c.in-Drill.is (record { input_same = refl; clock_same = refl }, c.drill.ensures.files.0, c.drill.ensures.files.1, c.drill.ensures.drilled)
+returns-in-Drill-clause-does g c = rw c.in-Drill.is (refl, c.drill.ensures.files.0, c.drill.ensures.files.1, c.drill.ensures.drilled)
 
 pub returns-in-Drill-clause-links : goal.returns-in-Drill-clause-links
 returns-in-Drill-clause-links g c other = refl
