@@ -15,6 +15,9 @@ use std::alloc::Global;
 /// The greatest moment.
 const LAST: u64 = 253402300799;
 
+/// The most entries for which room is made before they are read: the count is not yet to be trusted.
+const AHEAD: usize = 131072;
+
 /// Reads so many entries.
 pub fn entries(
     alloc: Global,
@@ -24,7 +27,7 @@ pub fn entries(
 ) -> Result<Vec<Entry>, Stopped>
     ensures { GivesItems result input.new (steps_at (packed names.now) moment_of count 0 input.old) }
 {
-    let mut entries = Vec::new(alloc);
+    let mut entries = Vec::with_capacity(alloc, AHEAD.min(count as usize))?;
     let mut moment = 0;
     for _ in 0..count {
         let entry = entry_behind(alloc, input, names, moment)?;

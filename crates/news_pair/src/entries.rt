@@ -70,7 +70,7 @@ fn read_entries(alloc: Global, records: &[Record]) -> Result<Vec<Entry>, PackFau
     ensures fault { IfErr result (λ e. IsDiskFault e → ⊥) }
     ensures full { IfErr result (λ e. IsFull e → ⊥) }
 {
-    let mut entries = Vec::new(alloc);
+    let mut entries = Vec::with_capacity(alloc, records.len())?;
     let mut moment = 0;
     for kept in records {
         let entry = read_entry(alloc, kept, moment)?;

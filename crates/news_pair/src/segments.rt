@@ -7,7 +7,7 @@ ghost use Rattle.entry_segments.specs.Reading.{segment};
 ghost use Rattle.news_pair.specs.Segments.{segment_in};
 ghost use Rattle.news_pair.specs.declared.segments.NoSegment.TheVariants.{At};
 
-use entry_codec::{CodecFault, encode};
+use entry_codec::{CodecFault, put_act};
 use entry_segments::unpack;
 use news_types::{Bytes, Entry, Memory};
 use std::alloc::Global;
@@ -27,14 +27,15 @@ pub struct Unpacked {
     pub payloads: Vec<Bytes>,
 }
 
-/// The payload of an entry's record.
-fn payload_of(alloc: Global, entry: &Entry) -> Result<Bytes, Memory>
+/// The payload of an entry's record. It is spelled in a buffer that many entries share.
+fn payload_of(alloc: Global, spelled: &mut Vec<u8>, entry: &Entry) -> Result<Bytes, Memory>
     requires { IsEntry entry.now }
     ensures { IfOk result (λ bytes. bytes ≡ entry_bytes entry.now) }
 {
-    let framed = encode(alloc, entry)?;
-    let framed = framed.as_slice();
-    let payload = Bytes::copy_of(alloc, &framed[4..framed.len() - 1])?;
+    spelled.clear();
+    spelled.extend_from_slice(&entry.moment.to_be_bytes())?;
+    put_act(spelled, &entry.act)?;
+    let payload = Bytes::copy_of(alloc, spelled.as_slice())?;
     Ok(payload)
 }
 
@@ -43,9 +44,10 @@ fn payloads_of(alloc: Global, entries: &[Entry]) -> Result<Vec<Bytes>, Memory>
     requires { All IsEntry entries.now }
     ensures { IfOk result (λ payloads. payloads.items ≡ map entry_bytes entries.now) }
 {
-    let mut payloads = Vec::new(alloc);
+    let mut payloads = Vec::with_capacity(alloc, entries.len())?;
+    let mut spelled = Vec::new(alloc);
     for entry in entries {
-        payloads.push(payload_of(alloc, entry)?)?;
+        payloads.push(payload_of(alloc, &mut spelled, entry)?)?;
     }
     Ok(payloads)
 }

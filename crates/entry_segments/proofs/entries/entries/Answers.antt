@@ -8,7 +8,7 @@ pub returns-in_err-entry : goal.returns-in_err-entry
 returns-in_err-entry c =
     let ns = c.args.names.now in
     let total = steps_at (packed ns) moment_of c.args.count 0 c.args.input.now in
-    let p = err_from_is_err_and c.from_residual.result c.from_residual.ensures.1 in
+    let p = err_from_is_err_and c.from_residual-in_err-entry.result c.from_residual-in_err-entry.ensures.1 in
     rw (p.1, p.2) (step_fails (packed ns) moment_of c.in_err-entry.field-0.0 c.loop.entries.items c.args.count c.loop.counter c.loop.moment c.loop.input total c.loop-test.true c.in_err-entry.ensures.gives c.loop.invariant.so_far)
 
 pub loop-preserved : goal.loop-preserved

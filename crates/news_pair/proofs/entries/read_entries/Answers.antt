@@ -16,7 +16,7 @@ use Rattle.news_pair.proofs.entries.read_entries.Goals as goal
 
 pub returns-in_err-entry-clause-judged : goal.returns-in_err-entry-clause-judged
 returns-in_err-entry-clause-judged c =
-    let e = err_from_is_err_and c.from_residual.result c.from_residual.ensures.1 in
+    let e = err_from_is_err_and c.from_residual-in_err-entry.result c.from_residual-in_err-entry.ensures.1 in
     rw (e.1, e.2) (order_broken c.args.records.now c.loop-kept.kept-index c.loop-kept.moment c.loop-kept.invariant.found c.kept-item.result _ c.loop-kept-test.true c.kept-item.is c.in_err-entry.ensures.judged)
 
 pub loop-kept-preserved : goal.loop-kept-preserved
