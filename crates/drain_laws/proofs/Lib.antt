@@ -1,0 +1,4 @@
+mod Named
+mod Refusals
+mod Places
+mod Quiet
