@@ -56,14 +56,26 @@ def seconds(client, path, depth, words):
     return float(done.stdout)
 
 
+def compile_program(path):
+    """Makes the client or the server in C."""
+    source = os.path.join(TOP, "bench/http", os.path.basename(path) + ".c")
+    subprocess.run(["cc", "-O2", "-o", path, source], check=True)
+
+
+def report(name, count, rounds, aim):
+    """Prints the rates of both, by the seconds of each round, and which part one is of the other."""
+    ours, theirs = (count / statistics.median(times) for times in zip(*rounds))
+    ratio = statistics.median(theirs / ours for ours, theirs in rounds)
+    print(f"  {name}: {ours:.0f} a second, the server in C {theirs:.0f}: {ratio:.2f} of its rate, where {aim} is the aim")
+
+
 def main():
     if not os.path.exists(SERVER):
         sys.exit("crates/plain_server is not built: `rt run` in its folder does it")
     with tempfile.TemporaryDirectory() as folder:
         client, server = os.path.join(folder, "client"), os.path.join(folder, "server")
         for program in (client, server):
-            source = os.path.join(TOP, "bench/http", os.path.basename(program) + ".c")
-            subprocess.run(["cc", "-O2", "-o", program, source], check=True)
+            compile_program(program)
         kinds = (("GET of an item", questions(), 0.5), ("GET of 20 entries of a feed", feeds(), 0.5), ("POST of a flash", requests(), 0.4))
         for depth in (1, 64):
             print("one at a time:" if depth == 1 else f"{depth} at a time:")
@@ -71,14 +83,12 @@ def main():
                 path = os.path.join(folder, "records")
                 with open(path, "wb") as file:
                     file.write(records([*begin(), *asks]))
-                ratios, rates = [], []
+                rounds = []
                 for _ in range(ROUNDS):
                     ours = seconds(client, path, depth, [SERVER, "more"])
-                    theirs = seconds(client, path, depth, [server, path])
-                    ratios.append(theirs / ours)
-                    rates.append((len(asks) / ours, len(asks) / theirs))
-                ours, theirs = (statistics.median(rate) for rate in zip(*rates))
-                print(f"  {name}: {ours:.0f} a second, the server in C {theirs:.0f}: {statistics.median(ratios):.2f} of its rate, where {aim} is the aim")
+                    rounds.append((ours, seconds(client, path, depth, [server, path])))
+                report(name, len(asks), rounds, aim)
 
 
-main()
+if __name__ == "__main__":
+    main()

@@ -3,48 +3,65 @@
 
 It listens on 127.0.0.1:PORT, and keeps the payload of each frame once, in order, as the file FOLDER/K for frame K of the feed.
 A frame counts once its file stands under its own name, synced: so a stop at any moment loses nothing that was receipted, and
-what is sent again is not kept again.
+what is sent again is not kept again. It takes several connections beside each other, since each worker of a server has one of its own.
 """
 import os
 import socketserver
 import sys
+import threading
 
-NAME, FOLDER, PORT = sys.argv[1], sys.argv[2], int(sys.argv[3])
 
-
-def keep(k, payload):
-    path = os.path.join(FOLDER, str(k))
+def keep(folder, k, payload):
+    path = os.path.join(folder, str(k))
     with open(path + ".new", "wb") as file:
         file.write(payload)
         file.flush()
         os.fsync(file.fileno())
     os.rename(path + ".new", path)
-    folder = os.open(FOLDER, os.O_RDONLY)
-    os.fsync(folder)
-    os.close(folder)
+    descriptor = os.open(folder, os.O_RDONLY)
+    os.fsync(descriptor)
+    os.close(descriptor)
 
 
-class Feed(socketserver.StreamRequestHandler):
+class Connection(socketserver.StreamRequestHandler):
     def handle(self):
-        """One frame after another: `FRAME NAME K LENGTH`, a line feed, and LENGTH bytes. Each is answered with a receipt of all
-        that is kept; where what comes is no frame, the connection is closed."""
-        while True:
-            words = self.rfile.readline(80).split()
-            if len(words) != 4 or words[0] != b"FRAME":
-                return
-            k, length = int(words[2]), int(words[3])
-            payload = self.rfile.read(length)
-            if len(payload) < length:
-                return
-            if words[1] == NAME.encode() and k == self.server.count + 1:
-                keep(k, payload)
-                self.server.count = k
-            self.wfile.write(b"RECEIPT %s %d\n" % (NAME.encode(), self.server.count))
+        """One frame after another. Each is answered with a receipt of all that is kept; where what comes is no frame, the
+        connection is closed."""
+        while frame := self.read_frame():
+            self.reply(self.server.take(*frame))
+
+    def read_frame(self):
+        """A name, a number and a payload: `FRAME NAME K LENGTH`, a line feed, and LENGTH bytes. Nothing where it is no frame."""
+        words = self.rfile.readline(80).split()
+        if len(words) != 4 or words[0] != b"FRAME":
+            return None
+        k, length = int(words[2]), int(words[3])
+        payload = self.rfile.read(length)
+        return (words[1], k, payload) if len(payload) == length else None
+
+    def reply(self, count):
+        self.wfile.write(b"RECEIPT %s %d\n" % (self.server.name, count))
+
+
+class Receiver(socketserver.ThreadingTCPServer):
+    allow_reuse_address = daemon_threads = True
+
+    def __init__(self, name, folder, port, connection=Connection):
+        super().__init__(("127.0.0.1", port), connection)
+        os.makedirs(folder, exist_ok=True)
+        self.name, self.folder = name.encode(), folder
+        self.count = sum(file.isdigit() for file in os.listdir(folder))
+        self.turn = threading.Lock()
+
+    def take(self, name, k, payload):
+        """Keeps a frame where it is the next one of the feed. Tells how many are kept."""
+        with self.turn:
+            if name == self.name and k == self.count + 1:
+                keep(self.folder, k, payload)
+                self.count = k
+            return self.count
 
 
 if __name__ == "__main__":
-    os.makedirs(FOLDER, exist_ok=True)
-    socketserver.TCPServer.allow_reuse_address = True
-    with socketserver.TCPServer(("127.0.0.1", PORT), Feed) as server:
-        server.count = sum(name.isdigit() for name in os.listdir(FOLDER))
-        server.serve_forever()
+    with Receiver(sys.argv[1], sys.argv[2], int(sys.argv[3])) as receiver:
+        receiver.serve_forever()
