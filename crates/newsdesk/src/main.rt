@@ -1,26 +1,48 @@
 //! newsdesk: a newsroom server for one news agency. It makes the real objects, and hands them to the call that is proved.
 #![tactic(auto)]
 
-use command_words::{command_help, help_texts, version_text};
+ghost use Rattle.std.specs.Prelude.{◌≡◌, ◌+◌, vec_len, IfOk};
+ghost use Rattle.news_io.specs.Devices.{file_disk};
+ghost use Rattle.news_pair.specs.Keeper.{pair_of};
+ghost use Rattle.news_room.specs.Stands.{SomeBook};
+
+use command_words::{Serving, command_help, help_texts, read_serving, version_text};
 use feed_links::TcpLink;
 use news_io::{FileDisk, Sink, StdClock, StdSink, StdSource, write_all};
+use news_pair::Pair;
 use news_types::{Memory, Name, Text};
+use newsdesk_server::{Setup, open_store, run_serve};
 use program_events::run;
 use progress::{Content, Meter, Watched};
-use run_status::Status;
+use run_status::{Status, tell_status};
+use server_doors::TcpDoor;
 use std::alloc::Global;
 use std::fs::File;
 use std::io::{ErrorKind, IsTerminal};
-use std::net::{Net, TcpStream};
+use std::net::{Net, TcpListener, TcpStream};
 use std::process::ExitCode;
 use std::rt::{Env, Files};
 use std::time::Clock;
 use std::{env, io};
 
 fn main(rt: HostRuntime) -> ExitCode {
+    let alloc = rt.alloc();
     let shows = rt.stderr().is_terminal();
-    let status = start(&rt, shows);
-    ExitCode::from(status)
+    let words = match words_of(&rt) {
+        Ok(words) => words,
+        Err(NoWords::Faulty) => return ExitCode::from(Status::Usage.number()),
+        Err(NoWords::Memory) => return ExitCode::from(Status::Memory.number()),
+    };
+    let Ok(mut output) = StdSink::new(alloc, io::writer(&rt)) else {
+        return ExitCode::from(Status::Memory.number());
+    };
+    let Some(serving) = read_serving(&words) else {
+        return ExitCode::from(start(&rt, alloc, &words, &mut output, shows));
+    };
+    ExitCode::from(match server_of(&rt, alloc, &words, serving) {
+        Ok(setup) => run_serve(&rt, alloc, setup, &mut output).status.number(),
+        Err(status) => tell_status(&mut output, status),
+    })
 }
 
 /// Why there is no command to do.
@@ -50,40 +72,31 @@ fn words_of<R: Env + AllocGlobal>(rt: &R) -> Result<Vec<Text>, NoWords> {
     Ok(words)
 }
 
+/// Does what the words ask for, but for `serve`.
 fn start<
     R: Files<File = File>
         + Net<Stream = TcpStream>
-        + Env
         + Clock
         + Input
-        + Print
         + Eprint
         + AllocGlobal
         + Clone
         + Drop,
->(rt: &R, shows: bool) -> u8 {
-    let alloc = rt.alloc();
-    let words = match words_of(rt) {
-        Ok(words) => words,
-        Err(NoWords::Faulty) => return Status::Usage.number(),
-        Err(NoWords::Memory) => return Status::Memory.number(),
-    };
-    let Ok(mut output) = StdSink::new(alloc, io::writer(rt)) else {
-        return Status::Memory.number();
-    };
+    O: Sink,
+>(rt: &R, alloc: Global, words: &[Text], output: &mut O, shows: bool) -> u8 {
     if words.len() == 1 {
         match words[0].as_str() {
-            "--help" => return say(&mut output, &help_texts()),
-            "--version" => return say(&mut output, &[version_text()]),
+            "--help" => return say(output, &help_texts()),
+            "--version" => return say(output, &[version_text()]),
             _ => {}
         }
     }
     if words.len() == 2 && words[1].as_str() == "--help" {
         if let Some(line) = command_help(words[0].as_str()) {
-            return say(&mut output, &[line]);
+            return say(output, &[line]);
         }
     }
-    match run_words(rt, alloc, &words, &mut output, shows) {
+    match run_words(rt, alloc, words, output, shows) {
         Ok(status) => status,
         Err(Memory) => Status::Memory.number(),
     }
@@ -102,7 +115,7 @@ fn say<O: Sink>(output: &mut O, texts: &[&str]) -> u8 {
     Status::Done.number()
 }
 
-/// A meter of what is read, where it is to be shown.
+/// A meter of what is read or done, where it is to be shown.
 fn meter<R: Clock + Eprint + Clone>(
     rt: &R,
     shows: bool,
@@ -114,7 +127,8 @@ fn meter<R: Clock + Eprint + Clone>(
     Ok(Some(Meter::new(rt.clone()?, content)))
 }
 
-/// Makes the real objects, and runs the command. Where `shows` is set, standard error shows how far the log and the input are read.
+/// Makes the real objects, and runs the command. Where `shows` is set, standard error shows how far the log and the input are read,
+/// and of a drill, which reads neither, how many steps it has taken.
 fn run_words<
     R: Files<File = File>
         + Net<Stream = TcpStream>
@@ -130,31 +144,104 @@ fn run_words<
         StdSource::new(alloc, rt.reader())?,
         meter(rt, shows, Content::Lines)?,
     );
-    let mut clock = StdClock::new(rt.clone()?);
-    let log = FileDisk::new(rt.clone()?, path_of(alloc, words, "")?);
-    let side = FileDisk::new(rt.clone()?, path_of(alloc, words, ".side")?);
+    let drills = words.first().is_some_and(|verb| verb.as_str() == "drill");
+    let mut clock = Watched::new(
+        StdClock::new(rt.clone()?),
+        meter(rt, shows && drills, Content::Steps)?,
+    );
+    let (log, side) = files_of(rt, alloc, words)?;
     let log = Watched::new(log, meter(rt, shows, Content::Binary)?);
     let side = Watched::new(side, None);
     let mut links = Vec::new(alloc);
-    links.push(TcpLink::new(alloc, rt.clone()?, receivers_of(alloc, words)?)?)?;
+    links.push(link_to(rt, alloc, drained_by(words))?)?;
     let (status, log, _) = run(
         alloc, words, &mut input, output, log, side, &mut clock, &mut links,
     );
-    if log.has_shown() || input.has_shown() {
+    if log.has_shown() || input.has_shown() || clock.has_shown() {
         let _ = eprintln!(rt);
     }
     Ok(status)
 }
 
-/// The receivers that a drain names, each with its address; none of another command, or behind a word that is no name.
-fn receivers_of(alloc: Global, words: &[Text]) -> Result<Vec<(Name, Text)>, Memory> {
-    let mut receivers = Vec::new(alloc);
-    let [verb, _, pairs @ ..] = words else {
-        return Ok(receivers);
+/// What a server over real files and connections starts with.
+type Newsdesk<R> = Setup<Pair<FileDisk<R>>, StdClock<R>, TcpDoor<R>, TcpLink<R>>;
+
+/// The room of the store that the words name, with what its server needs beside it; or the status that says why there is none.
+fn server_of<
+    R: Files<File = File> + Net<Listener = TcpListener, Stream = TcpStream> + Clock + Clone + Drop,
+>(rt: &R, alloc: Global, words: &[Text], serving: Serving<'_>) -> Result<Newsdesk<R>, Status>
+    ensures stands { IfOk result (λ setup. SomeBook (pair_of file_disk) setup.room) }
+    ensures clocks { IfOk result (λ setup. vec_len setup.clocks ≡ vec_len setup.links + 1) }
+{
+    let Ok((log, side)) = files_of(rt, alloc, words) else {
+        return Err(Status::Memory);
     };
-    if verb.as_str() != "drain" {
-        return Ok(receivers);
+    let room = match open_store(alloc, log, side) {
+        Ok(room) => room,
+        Err((status, _, _)) => return Err(status),
+    };
+    let Ok((door, clocks, links)) = outside_of(rt, alloc, serving) else {
+        return Err(Status::Memory);
+    };
+    Ok(Setup {
+        room,
+        door,
+        clocks,
+        links,
+    })
+}
+
+/// The log that the words name, and its side.
+fn files_of<R: Files<File = File> + Clone + Drop>(
+    rt: &R,
+    alloc: Global,
+    words: &[Text],
+) -> Result<(FileDisk<R>, FileDisk<R>), Memory> {
+    let log = FileDisk::new(rt.clone()?, path_of(alloc, words, "")?);
+    let side = FileDisk::new(rt.clone()?, path_of(alloc, words, ".side")?);
+    Ok((log, side))
+}
+
+/// A door at the address, a clock for each role, and a link over all receivers for each worker.
+fn outside_of<R: Net<Listener = TcpListener, Stream = TcpStream> + Clock + Clone + Drop>(
+    rt: &R,
+    alloc: Global,
+    serving: Serving<'_>,
+) -> Result<(TcpDoor<R>, Vec<StdClock<R>>, Vec<TcpLink<R>>), Memory>
+    ensures { IfOk result (λ made. vec_len made.1 ≡ vec_len made.2 + 1) }
+{
+    let address = Text::copy_of(alloc, serving.address.as_str())?;
+    let door = TcpDoor::new(alloc, rt.clone()?, address);
+    let mut clocks = Vec::new(alloc);
+    clocks.push(StdClock::new(rt.clone()?))?;
+    let mut links = Vec::new(alloc);
+    for _ in 0..serving.workers {
+        clocks.push(StdClock::new(rt.clone()?))?;
+        links.push(link_to(rt, alloc, serving.receivers)?)?;
     }
+    Ok((door, clocks, links))
+}
+
+/// A link to receivers, each a name and behind it its address.
+fn link_to<R: Net<Stream = TcpStream> + Clone + Drop>(
+    rt: &R,
+    alloc: Global,
+    pairs: &[Text],
+) -> Result<TcpLink<R>, Memory> {
+    TcpLink::new(alloc, rt.clone()?, receivers_in(alloc, pairs)?)
+}
+
+/// The receivers that a drain names, each with its address; none of another command.
+fn drained_by(words: &[Text]) -> &[Text] {
+    match words {
+        [verb, _, pairs @ ..] if verb.as_str() == "drain" => pairs,
+        _ => &[],
+    }
+}
+
+/// The receivers of these pairs, each with its address; none behind a word that is no name.
+fn receivers_in(alloc: Global, pairs: &[Text]) -> Result<Vec<(Name, Text)>, Memory> {
+    let mut receivers = Vec::new(alloc);
     for pair in pairs.chunks_exact(2) {
         let [name, address] = pair else {
             return Ok(receivers);

@@ -1,0 +1,5 @@
+pub mod Opening
+pub mod Summary
+pub mod Workers
+pub mod Ready
+pub mod Serving
