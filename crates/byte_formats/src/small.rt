@@ -66,9 +66,10 @@ impl<const N: usize> SmallBytes<N> {
     }
 
     /// Appends a number in decimal.
-    pub fn push_decimal(&mut self, number: u32)
-        requires { length self.old + 10 ≤ N }
-        ensures { self.new ≡ self.old ++ decimal number }
+    pub fn push_decimal(&mut self, number: u64)
+        requires { length self.old + 20 ≤ N }
+        ensures bytes { self.new ≡ self.old ++ decimal number }
+        ensures few { length self.new ≤ length self.old + 20 }
     {
         let mut digits = Buffer::new();
         self.push_slice(digits.format(number).as_bytes());

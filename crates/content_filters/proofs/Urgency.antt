@@ -88,11 +88,8 @@ by_digit op urgency values valid =
       | inr many ↦ let e : nat_lt 9 urgency ≡ true = grind (arith, nat_tests) in let parts = fits op values valid in rw e (past_digits op 58 (48 + urgency) values (omega arith) (omega arith) parts.0 parts.1)
     ]
 
-plain_urgency : (op : Op) (values : List Bytes) → is_condition Urgency op values ≡ true → is_folding_op op ≡ false
-plain_urgency op values valid = (fits op values valid).0
-
 -- what was compared in place of the urgency
 pub by_urgency : (story : Story) (op : Op) (values : List Bytes) (verdict : Bool) (n : ℕ) → is_condition Urgency op values ≡ true → n ≡ urgency_byte story.urgency
-    → (is_folding_op op ≡ false → verdict ≡ compares op (n ∷ []) values) → verdict ≡ compares op (text_of Urgency story) values
+    → verdict ≡ compares op (n ∷ []) values → verdict ≡ compares op (text_of Urgency story) values
 by_urgency story op values verdict n valid is compared =
-    compared (plain_urgency op values valid) ∙ rw is (by_digit op story.urgency values valid)
+    compared ∙ rw is (by_digit op story.urgency values valid)

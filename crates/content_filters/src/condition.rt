@@ -51,7 +51,8 @@ fn is_among(text: &[u8], values: &[Text]) -> bool
 
 /// What an operator that folds nothing says of a text.
 fn compares(op: Op, text: &[u8], values: &[Text]) -> bool
-    ensures { is_folding_op op ≡ false → result ≡ compares op text.now values.now }
+    requires { is_folding_op op ≡ false }
+    ensures { result ≡ compares op text.now values.now }
 {
     let value = first_value(values).as_bytes();
     match op {
@@ -63,7 +64,7 @@ fn compares(op: Op, text: &[u8], values: &[Text]) -> bool
         Op::Lte => first_byte(text) <= first_byte(value),
         Op::Gt => first_byte(text) > first_byte(value),
         Op::Gte => first_byte(text) >= first_byte(value),
-        Op::Like | Op::NotLike | Op::StartsWith | Op::EndsWith => false,
+        Op::Like | Op::NotLike | Op::StartsWith | Op::EndsWith => unreachable!(),
     }
 }
 
@@ -90,7 +91,8 @@ fn urgency_byte(urgency: u8) -> u8
 
 /// The text of a field other than the urgency.
 fn text_of(field: Field, story: &Story) -> &str
-    ensures { field ≢ Urgency → result.now ≡ text_of field story.now }
+    requires { field ≢ Urgency }
+    ensures { result.now ≡ text_of field story.now }
 {
     match field {
         Field::Slugline => story.slugline.as_str(),
@@ -100,7 +102,7 @@ fn text_of(field: Field, story: &Story) -> &str
         Field::Category => story.category.as_str(),
         Field::Body => story.body.as_str(),
         Field::Kind => story.kind.word(),
-        Field::Urgency => "",
+        Field::Urgency => unreachable!(),
     }
 }
 

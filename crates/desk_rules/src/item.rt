@@ -4,9 +4,8 @@ ghost use Rattle.news_types.specs.Denial as denial;
 ghost use Rattle.news_types.specs.Items.{Item};
 ghost use Rattle.desk_rules.specs.Asked.{place_in, IsHeldAs, work_denial};
 
-use crate::command::action_of;
 use crate::seats::Seat;
-use item_rules::next_state;
+use item_rules::{action_of, next_state};
 use news_types::{Action, Command, Denial, Holder, Name, Place, State};
 
 /// The desk whose members alone may do it, if there is one: the one that is named, or else that of the item.

@@ -9,10 +9,11 @@ ghost use Rattle.news_types.specs.declared.denial.Denial.TheVariants.{NameTaken}
 ghost use Rattle.desk_rules.specs.Keeps.{KeepsFacts};
 ghost use Rattle.desk_rules.specs.Asked.{caller_denial, may_denial, knows_denial, full_denial, is_of_desks};
 
-use crate::command::{named_item, privilege_of};
+use crate::command::privilege_of;
 use crate::item::{asked_desk, work_denial};
 use crate::table::Desks;
 use crate::users::grants;
+use item_rules::named_item;
 use news_types::{Command, Denial, Name, Place, Rule, State, Thing};
 
 /// How many users there may be.

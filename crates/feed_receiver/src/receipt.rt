@@ -20,7 +20,7 @@ pub fn receipt_line(name: &Name, n: u32) -> Line
     line.push_slice(b"RECEIPT ");
     line.push_slice(name.as_bytes());
     line.push_slice(b" ");
-    line.push_decimal(n);
+    line.push_decimal(n as u64);
     line.push_slice(b"\n");
     Line { bytes: line }
 }

@@ -4,5 +4,6 @@
 mod sort;
 mod state;
 
-pub use sort::{Sort, named_item, sort_of};
+pub use item_rules::named_item;
+pub use sort::{Sort, sort_of};
 pub use state::{moved, state_after, state_at, story_given, version_after};

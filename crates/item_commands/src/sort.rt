@@ -1,6 +1,5 @@
 //! What sorts of commands there are.
 ghost use Rattle.std.specs.Prelude.{◌≡◌};
-ghost use Rattle.news_types.specs.Items.{named_item};
 ghost use Rattle.item_commands.specs.Sorts.{sort_of};
 
 use news_types::Command;
@@ -68,27 +67,5 @@ pub fn sort_of(command: &Command) -> Sort
         Command::Publish { .. } => Sort::Publishes,
         Command::Correct { .. } | Command::Kill { .. } | Command::Recall { .. } => Sort::Follows,
         Command::Deschedule { .. } => Sort::Withdraws,
-    }
-}
-
-/// The item that the command names, or 0.
-pub fn named_item(command: &Command) -> u32
-    ensures { result ≡ named_item command.now }
-{
-    match command {
-        Command::Lock { item, .. }
-        | Command::Unlock { item, .. }
-        | Command::BreakLock { item }
-        | Command::Edit { item, .. }
-        | Command::MoveTo { item, .. }
-        | Command::Spike { item }
-        | Command::Unspike { item, .. }
-        | Command::Fetch { item, .. }
-        | Command::Publish { item, .. }
-        | Command::Correct { item, .. }
-        | Command::Kill { item, .. }
-        | Command::Recall { item, .. }
-        | Command::Deschedule { item } => *item,
-        _ => 0,
     }
 }

@@ -1,12 +1,12 @@
 //! The state of an item, and what a command sets it to.
 ghost use Rattle.std.specs.Prelude.{◌≡◌, ◌<◌, ◌+◌, ◌^◌, Option, option_map, IfOk};
 ghost use Rattle.news_types.specs.Due.{Pub};
-ghost use Rattle.news_types.specs.Items.{state_at, action_of, state_after, version_after};
+ghost use Rattle.news_types.specs.Items.{state_at, state_after, version_after};
 ghost use Rattle.news_types.specs.States.{moved};
 ghost use Rattle.publications.specs.Keeps.{facts_of};
 ghost use Rattle.item_commands.specs.Given.{story_given};
 
-use item_rules::{Action, next_state};
+use item_rules::{Action, action_of, next_state};
 use item_table::SharedStory;
 use news_types::{Command, Memory, Moment, State};
 use publications::FirstFacts;
@@ -42,26 +42,6 @@ pub fn state_after(command: &Command, state: State) -> State
     match action_of(command) {
         Some(action) => moved(action, state),
         None => state,
-    }
-}
-
-/// The action that the command takes with its item, if it takes one.
-fn action_of(command: &Command) -> Option<Action>
-    ensures { result ≡ action_of command.now }
-{
-    match command {
-        Command::Lock { .. } => Some(Action::Lock),
-        Command::Edit { .. } => Some(Action::Edit),
-        Command::MoveTo { .. } => Some(Action::Move),
-        Command::Spike { .. } => Some(Action::Spike),
-        Command::Unspike { .. } => Some(Action::Unspike),
-        Command::Fetch { .. } => Some(Action::Fetch),
-        Command::Publish { .. } => Some(Action::Publish),
-        Command::Correct { .. } => Some(Action::Correct),
-        Command::Kill { .. } => Some(Action::Kill),
-        Command::Recall { .. } => Some(Action::Recall),
-        Command::Deschedule { .. } => Some(Action::Deschedule),
-        _ => None,
     }
 }
 

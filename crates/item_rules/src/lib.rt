@@ -1,9 +1,12 @@
-//! Which action leads an item from which state to which.
+//! Which action leads an item from which state to which, and which action a command takes with which item.
 #![tactic(auto)]
 
 ghost use Rattle.std.specs.Prelude.{◌≡◌};
 ghost use Rattle.news_types.specs.States as states;
 
+mod command;
+
+pub use command::{action_of, named_item};
 pub use news_types::Action;
 use news_types::State;
 

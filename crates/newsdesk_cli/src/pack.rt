@@ -5,7 +5,6 @@ ghost use Rattle.newsdesk_cli.specs.Packing.{packed_line as line_of_count};
 
 use crate::telling::tell_answer;
 use byte_formats::SmallBytes;
-use itoa::Buffer;
 use news_io::Sink;
 
 /// The longest line: the words, and a number.
@@ -15,10 +14,9 @@ const LINE: usize = 56;
 fn packed_line(count: u64) -> SmallBytes<LINE>
     ensures { result ≡ line_of_count count }
 {
-    let mut digits = Buffer::new();
     let mut line: SmallBytes<LINE> = SmallBytes::new();
     line.push_slice(b"{\"answer\":\"packed\",\"entries\":");
-    line.push_slice(digits.format(count).as_bytes());
+    line.push_decimal(count);
     line.push_slice(b"}\n");
     line
 }

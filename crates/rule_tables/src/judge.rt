@@ -1,5 +1,5 @@
 //! The first reason to deny a new scheme or a new provider.
-ghost use Rattle.std.specs.Prelude.{◌≡◌, ◌++◌, Option, true, not, flat_map, is_some, nat_lt};
+ghost use Rattle.std.specs.Prelude.{◌≡◌, Option, true, flat_map, is_some};
 ghost use Rattle.news_types.specs.Names.{Bytes};
 ghost use Rattle.news_types.specs.History.{History};
 ghost use Rattle.news_types.specs.Filters.{is_filter};
@@ -7,7 +7,6 @@ ghost use Rattle.news_types.specs.Routing.{is_scheme, scheme as scheme_of};
 ghost use Rattle.news_types.specs.declared.words.Thing.TheVariants as thing;
 ghost use Rattle.news_types.specs.Denial as denial;
 ghost use Rattle.news_types.specs.declared.command.Command.TheVariants as command;
-ghost use Rattle.news_types.specs.declared.denial.Denial.TheVariants.{Limit, NameTaken};
 ghost use Rattle.content_filters.specs.Reasons.{denial_by};
 ghost use Rattle.content_filters.specs.Asked.{first_thing};
 ghost use Rattle.rule_tables.specs.Keeps.{KeepsRules};
@@ -48,22 +47,20 @@ impl Rules {
         if !is_scheme(rules) {
             return Some(Denial::BadOperand);
         }
-        full(Thing::Scheme, self.sources.schemes.len(), MOST_SCHEMES)
+        Denial::unless_below(Thing::Scheme, self.sources.schemes.len(), MOST_SCHEMES)
     }
 
     /// The first reason to deny a new provider.
     fn provider_denied(&self, name: &Name, scheme: &Option<Name>) -> Option<Denial>
         ensures { (h : History) → KeepsRules self.now h → result ≡ denial_by h (command.AddProvider name.now scheme.now) }
     {
-        if !self.has_given(scheme) {
-            return Some(Denial::UnknownThing {
-                thing: Thing::Scheme,
-            });
+        if let Some(denial) = Denial::unless_there(Thing::Scheme, self.has_given(scheme)) {
+            return Some(denial);
         }
         if self.sources.has_provider(name) {
             return Some(Denial::NameTaken);
         }
-        full(
+        Denial::unless_below(
             Thing::Provider,
             self.sources.providers.len(),
             MOST_PROVIDERS,
@@ -128,17 +125,4 @@ fn is_scheme(rules: &Scheme) -> bool
         Ok(may) => may,
         Err(_) => unreachable!(),
     }
-}
-
-/// That there are so many already.
-fn full(which: Thing, count: usize, limit: u32) -> Option<Denial>
-    ensures { result ≡ denial.unless (nat_lt count limit) (Limit which limit) }
-{
-    if count < limit as usize {
-        return None;
-    }
-    Some(Denial::Limit {
-        which,
-        number: limit,
-    })
 }

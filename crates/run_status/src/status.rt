@@ -1,9 +1,8 @@
 //! What a command ends with.
-ghost use Rattle.std.specs.Prelude.{◌≡◌, ◌≤◌, ◌+◌, ◌++◌, length, decimal};
+ghost use Rattle.std.specs.Prelude.{◌≡◌, ◌≤◌, ◌+◌, ◌++◌, length};
 ghost use Rattle.run_status.specs.Status.{number_of, line_of, place_of, byte_or_null};
 
 use byte_formats::SmallBytes;
-use itoa::Buffer;
 
 /// What a command ends with, and why.
 #[derive(Clone, Copy, Debug, PartialEq, Eq)]
@@ -56,22 +55,13 @@ pub enum Status {
 /// The longest line: the words, and two numbers.
 const LINE: usize = 80;
 
-fn push_number(line: &mut SmallBytes<LINE>, number: u64)
-    requires { length line.old + 20 ≤ 80 }
-    ensures bytes { line.new ≡ line.old ++ decimal number }
-    ensures few { length line.new ≤ length line.old + 20 }
-{
-    let mut digits = Buffer::new();
-    line.push_slice(digits.format(number).as_bytes());
-}
-
 fn push_byte_or_null(line: &mut SmallBytes<LINE>, byte: Option<u8>)
     requires { length line.old + 20 ≤ 80 }
     ensures bytes { line.new ≡ line.old ++ byte_or_null byte }
     ensures few { length line.new ≤ length line.old + 20 }
 {
     match byte {
-        Some(byte) => push_number(line, byte as u64),
+        Some(byte) => line.push_decimal(byte as u64),
         None => line.push_slice(b"null"),
     }
 }
@@ -82,7 +72,7 @@ fn push_place(line: &mut SmallBytes<LINE>, at: u64, found: Option<u8>)
     ensures few { length line.new ≤ length line.old + 55 }
 {
     line.push_slice(b"{\"at\":");
-    push_number(line, at);
+    line.push_decimal(at);
     line.push_slice(b",\"found\":");
     push_byte_or_null(line, found);
 }
@@ -135,7 +125,7 @@ impl Status {
             Status::TooLong => line.push_slice(b"{\"status\":12}\n"),
             Status::BadFrame { at } => {
                 line.push_slice(b"{\"at\":");
-                push_number(&mut line, at);
+                line.push_decimal(at);
                 line.push_slice(b",\"status\":13}\n");
             }
         }

@@ -211,7 +211,7 @@ pub fn utf8_text(alloc: Global, bytes: &[u8]) -> Result<Text, Memory>
     for byte in bytes {
         string.push(char::from(*byte))?;
     }
-    Text::copy_of(alloc, string.as_str())
+    Ok(Text::of(string))
 }
 
 /// The characters from the front on that have at most so many bytes together as UTF-8.
@@ -228,5 +228,5 @@ pub fn fitting_text(alloc: Global, most: usize, bytes: &[u8]) -> Result<Text, Me
         room -= letter.len_utf8();
         string.push(letter)?;
     }
-    Text::copy_of(alloc, string.as_str())
+    Ok(Text::of(string))
 }

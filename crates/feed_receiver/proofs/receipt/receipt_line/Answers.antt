@@ -1,10 +1,7 @@
-use Rattle.std.proofs.Common.{ℕ, arith, ap, length, length-append, ◌≤◌}
-use Rattle.std.specs.Prelude.{decimal}
-use Rattle.std.proofs.lemmas.Fmt.{length-decimal-le}
+use Rattle.std.proofs.Common.{ℕ, arith, ap, length, length-append}
 use Rattle.byte_formats.proofs.Names.{name_parts}
 use Rattle.feed_receiver.proofs.receipt.receipt_line.Goals as goal
 
 pub push_slice-requires-4 : goal.push_slice-requires-4
 push_slice-requires-4 c =
-    let digits : length (decimal c.args.n) ≤ 10 = length-decimal-le 10 c.args.n (omega arith) (omega (arith, c.ranges.n.fits)) (omega (arith, c.ranges.n.fits)) in
-    (omega arith, omega (arith, digits, (name_parts c.args.name.now c.as_bytes.ensures.form).1, ap length c.as_bytes.ensures.bytes, ap length c.push_slice.ensures, ap length c.push_slice-2.ensures, ap length c.push_slice-3.ensures, ap length c.push_decimal.ensures, ap length c.new-line.ensures, length-append {A = ℕ}))
+    (omega arith, omega (arith, (name_parts c.args.name.now c.as_bytes.ensures.form).1, ap length c.as_bytes.ensures.bytes, ap length c.push_slice.ensures, ap length c.push_slice-2.ensures, ap length c.push_slice-3.ensures, c.push_decimal.ensures.few, ap length c.new-line.ensures, length-append {A = ℕ}))

@@ -1,9 +1,9 @@
-use Rattle.std.proofs.Common.{◌≡◌, ◌≤◌, ◌*◌, ◌∙◌, ap, arith, ◌++◌, take, length}
+use Rattle.std.proofs.Common.{◌∙◌, ap, arith, ◌++◌, take, length}
 use Rattle.std.proofs.lemmas.List.{take_all}
 use Rattle.std.specs.Char.{encode_utf8}
 use Rattle.text7901.specs.Fields.{utf8}
 use Rattle.text7901.proofs.Parts.{utf8_more}
-use Rattle.text7901.proofs.Sizes.{if_ok, utf8_most}
+use Rattle.text7901.proofs.Sizes.{utf8_most}
 use Rattle.text7901.proofs.bytes.utf8_text.Goals as goal
 
 pub loop-byte-preserved : goal.loop-byte-preserved
@@ -15,6 +15,5 @@ loop-byte-preserved c =
 pub returns-clause-size : goal.returns-clause-size
 returns-clause-size c =
     let bytes = c.args.bytes.now in
-    let whole = c.as_str.ensures.value ∙ c.loop-byte.invariant ∙ ap utf8 (take_all c.loop-byte.byte-index bytes c.loop-byte-test.false) in
-    if_ok c.copy_of.result (λ t. t ≡ c.as_str.result.now) (λ t. length t ≤ 2 * length bytes)
-    (λ t e. omega (arith, ap length (e ∙ whole), utf8_most bytes (λ k _. omega (arith, c.type_inv.bytes k)))) c.copy_of.ensures
+    let whole = c.of.ensures ∙ c.loop-byte.invariant ∙ ap utf8 (take_all c.loop-byte.byte-index bytes c.loop-byte-test.false) in
+    omega (arith, ap length whole, utf8_most bytes (λ k _. omega (arith, c.type_inv.bytes k)))
