@@ -148,15 +148,8 @@ impl Newsroom {
         let releases = self
             .rules
             .releases(self.alloc, names, &[], Kind::First, release)?;
-        self.stories.prepare_routed(
-            *provider,
-            come,
-            place,
-            names,
-            releases,
-            moment,
-            self.entries,
-        )
+        self.stories
+            .prepare_routed(*provider, come, place, releases, moment, self.entries)
     }
 
     // Keeps an ingest. It takes no memory.

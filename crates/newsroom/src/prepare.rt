@@ -95,7 +95,7 @@ impl Newsroom {
             .rules
             .releases(self.alloc, names, &[], Kind::First, moment)?;
         self.stories
-            .prepare_flash(story, targets, names, releases, moment, self.entries)
+            .prepare_flash(story, targets, releases, moment, self.entries)
     }
 
     // Takes the memory for a command that publishes an item. One that is not there publishes nothing.
@@ -140,7 +140,7 @@ impl Newsroom {
             .rules
             .releases(self.alloc, names, latest, issue.kind, issue.release)?;
         self.stories
-            .prepare_issue(command, issue, names, releases, moment, self.entries)
+            .prepare_issue(command, issue, releases, moment, self.entries)
     }
 
     // Keeps a request. It takes no memory.

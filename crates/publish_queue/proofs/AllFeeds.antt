@@ -1,5 +1,5 @@
 -- The whole queue, before and after a call.
-use Rattle.std.proofs.Common.{◌≡◌, ℕ, zero, suc, ◌+◌, ◌-◌, ◌<◌, ◌≤◌, Bool, true, false, cond, ◌||◌, ◌&&◌, ◌==◌, List, [], ◌∷◌, length, map, get_or, take, drop, slice_get, refl, sym, ap, ◌∙◌, arith, Result, Ok, Err, OnOk, Option, Some, None, vec_capacity, ◌⊎◌, inl, inr}
+use Rattle.std.proofs.Common.{◌≡◌, ℕ, zero, suc, ◌+◌, ◌-◌, ◌<◌, ◌≤◌, Bool, true, false, cond, ◌||◌, ◌&&◌, ◌==◌, List, [], ◌∷◌, length, map, get_or, take, drop, slice_get, refl, sym, ap, subst, ◌∙◌, arith, Result, Ok, Err, OnOk, Option, Some, None, vec_capacity, ◌⊎◌, inl, inr}
 use mathlib.Core.Bool.{true≢false}
 use Rattle.std.specs.Option.{option_map}
 use Rattle.std.specs.List.{All, list_any, insert}
@@ -20,6 +20,8 @@ use Rattle.news_types.proofs.Members.{same_is, same_self}
 use Rattle.news_types.proofs.Dues.{release_from}
 use Rattle.publish_queue.specs.declared.feed.Delivery.{Delivery}
 use Rattle.publish_queue.specs.declared.feed.Feed.{Feed}
+use Rattle.publish_queue.specs.declared.queue.Feeds.{Feeds}
+use Rattle.publish_queue.specs.declared.queue.Queue.{Queue}
 use Rattle.publish_queue.specs.declared.release.Span.{Span}
 use Rattle.publish_queue.specs.declared.turns.Turns.{Turns}
 use Rattle.publish_queue.specs.Rows.{has_number}
@@ -27,7 +29,7 @@ use Rattle.publish_queue.specs.Ready.{row_turn}
 use Rattle.publish_queue.specs.Steps.{SameDelivery, IsEmptyFeed, IsAdded, IsWithdrawn}
 use Rattle.publish_queue.specs.Turns.{one}
 use Rattle.publish_queue.specs.Many.{Sets, EachGoes, OneGoes, Spread, IsSame, IsAddedTo, IsAdvancedTo, IsDeliveredTo, IsWithdrawnBy, IsOrdered, turn_in, turn_count, name_of, release_by}
-use Rattle.publish_queue.specs.Keeps.{IsRow, Stands, IsFeed, IsSetTo, IsUntouched, IsFair, number_of}
+use Rattle.publish_queue.specs.Keeps.{Facts, Keeps, IsRow, Stands, IsFeed, IsUntouched, IsFair, delivered, number_of, turn_of}
 use Rattle.publish_queue.proofs.Ascending as ascending
 use Rattle.publish_queue.proofs.ByName.{names_order}
 use Rattle.publish_queue.proofs.Entries.{get_map}
@@ -93,17 +95,17 @@ ordered_insert fs turns i f none apart room o = record {
 
 -- ---- how a delivery stands
 
-pub stands_same : (acked tries tried : Bytes → ℕ) (f g : Feed) → SameDelivery f g → Stands acked tries tried f → Stands acked tries tried g
-stands_same acked tries tried f g same_one is = record {
+pub stands_same : (known : Facts) (f g : Feed) → SameDelivery f g → Stands known f → Stands known g
+stands_same known f g same_one is = record {
   receipt = rw (same_one.name, same_one.delivery) is.receipt;
   attempts = rw (same_one.name, same_one.delivery) is.attempts;
   last = rw (same_one.name, same_one.delivery) is.last;
 }
 
-module _ {acked tries tried : Bytes → ℕ} where
+module _ (known : Facts) where
   -- the feed of a subscriber to whom nothing was due
-  pub is_first_feed : (ps : List Pub) (m : ℕ) (s : Bytes) (f : Feed) → IsUntouched ps acked tries tried s → IsEmptyFeed s f → IsFeed ps m acked tries tried f
-  is_first_feed ps m s f none is = record {
+  pub is_first_feed : (s : Bytes) (f : Feed) → IsUntouched known s → IsEmptyFeed s f → IsFeed known f
+  is_first_feed s f none is = record {
     rows = record {
       row = record { numbers = rw (is.name, none.due) is.row.numbers; releases = rw (is.name, none.due) is.row.releases };
       waiting = rw (is.name, none.due) is.waiting;
@@ -116,97 +118,108 @@ module _ {acked tries tried : Bytes → ℕ} where
     turn = rw (is.name, none.due) is.turn;
   }
 
-  pub is_feed_same : (ps : List Pub) (m : ℕ) (f g : Feed) → IsFeed ps m acked tries tried f → IsSame f g → IsFeed ps m acked tries tried g
-  is_feed_same ps m f g is step = record {
-    rows = is_row_alike ps m f g is.rows step.alike;
-    stands = stands_same acked tries tried f g step.alike.delivery is.stands;
+  pub is_feed_same : (f g : Feed) → IsFeed known f → IsSame f g → IsFeed known g
+  is_feed_same f g is step = record {
+    rows = is_row_alike known.publications known.moment f g is.rows step.alike;
+    stands = stands_same known f g step.alike.delivery is.stands;
     turn = rw step.alike.delivery.name (step.turn ∙ is.turn);
   }
 
-  pub is_feed_still : (ps : List Pub) (m n : ℕ) (f : Feed) → m ≤ n → list_any (is_coming m n) ps ≡ false → IsFeed ps m acked tries tried f → IsFeed ps n acked tries tried f
-  is_feed_still ps m n f le none is =
-      let still = feed_still m n f.name ps none in
+  stands_otherwise : (ps : List Pub) (n : ℕ) (f : Feed) → Stands known f → Stands (record known { publications = ps; moment = n }) f
+  stands_otherwise ps n f is = record { receipt = is.receipt; attempts = is.attempts; last = is.last }
+
+  -- a feed does not depend on who is a subscriber
+  pub is_feed_listed : (s : Bytes) (fs : List Feed) → All (IsFeed known) fs → All (IsFeed (record known { names = s ∷ known.names })) fs
+  is_feed_listed s fs all k d lt =
+      let is = all k d lt in
+      let stands : Stands (record known { names = s ∷ known.names }) (get_or fs k d) = record { receipt = is.stands.receipt; attempts = is.stands.attempts; last = is.stands.last } in
+      record { rows = is.rows; stands = stands; turn = is.turn }
+
+  pub is_feed_still : (n : ℕ) (f : Feed) → known.moment ≤ n → list_any (is_coming known.moment n) known.publications ≡ false → IsFeed known f → IsFeed (record known { moment = n }) f
+  is_feed_still n f le none is =
+      let still = feed_still known.moment n f.name known.publications none in
       record {
-        rows = is_row_still ps m n f le still is.rows;
-        stands = is.stands;
-        turn = rw (feed_stays ps m n f.name le still) is.turn;
+        rows = is_row_still known.publications known.moment n f le still is.rows;
+        stands = stands_otherwise known.publications n f is.stands;
+        turn = rw (feed_stays known.publications known.moment n f.name le still) is.turn;
       }
 
-  pub is_feed_advanced : (ps : List Pub) (m n : ℕ) (f g : Feed) → m ≤ n → IsFeed ps m acked tries tried f → IsAdvancedTo n f g → IsFeed ps n acked tries tried g
-  is_feed_advanced ps m n f g le is step =
-      let rows : IsRow ps n g = is_row_advanced ps m n f g le is.rows step.advanced in
-      let stands : Stands acked tries tried g = stands_same acked tries tried f g step.advanced.delivery is.stands in
-      let before : f.turn ≡ row_turn f = is.turn ∙ sym (turn_is ps m acked tries tried f is.rows is.stands) in
+  pub is_feed_advanced : (n : ℕ) (f g : Feed) → known.moment ≤ n → IsFeed known f → IsAdvancedTo n f g → IsFeed (record known { moment = n }) g
+  is_feed_advanced n f g le is step =
+      let rows : IsRow known.publications n g = is_row_advanced known.publications known.moment n f g le is.rows step.advanced in
+      let stands = stands_otherwise known.publications n g (stands_same known f g step.advanced.delivery is.stands) in
+      let before : f.turn ≡ row_turn f = is.turn ∙ sym (turn_is known f is.rows is.stands) in
       record {
         rows = rows;
         stands = stands;
-        turn = step.turn before ∙ turn_is ps n acked tries tried g rows stands;
+        turn = step.turn before ∙ turn_is (record known { moment = n }) g rows stands;
       }
 
   -- some of what waits is left
-  pub is_feed_withdrawn : (m : ℕ) (numbers : List ℕ) (ps qs : List Pub) (f g : Feed) → Leaves m numbers f.name ps qs → IsFeed ps m acked tries tried f → IsWithdrawn (has_number numbers) f g → IsFeed qs m acked tries tried g
-  is_feed_withdrawn m numbers ps qs f g leaves is step =
-      let stands : Stands acked tries tried g = stands_same acked tries tried f g step.delivery is.stands in
+  pub is_feed_withdrawn : (numbers : List ℕ) (qs : List Pub) (f g : Feed) → Leaves known.moment numbers f.name known.publications qs → IsFeed known f → IsWithdrawn (has_number numbers) f g → IsFeed (record known { publications = qs }) g
+  is_feed_withdrawn numbers qs f g leaves is step =
+      let s = f.name in
       record {
-        rows = is_row_withdrawn m numbers ps qs f g leaves is.rows step;
-        stands = stands;
-        turn = step.turn ∙ is.turn ∙ ap (λ l. ready_from (slice_get l (acked f.name)) (tries f.name) (tried f.name)) (sym (feed_left m numbers f.name ps qs leaves))
-            ∙ ap (λ s. ready_from (slice_get (feed_of qs m s) (acked s)) (tries s) (tried s)) (sym step.delivery.name);
+        rows = is_row_withdrawn known.moment numbers known.publications qs f g leaves is.rows step;
+        stands = stands_otherwise qs known.moment g (stands_same known f g step.delivery is.stands);
+        turn = step.turn ∙ is.turn ∙ ap (λ l. ready_from (slice_get l (known.acked s)) (known.tries s) (known.tried s)) (sym (feed_left known.moment numbers s known.publications qs leaves))
+            ∙ ap (turn_of (record known { publications = qs })) (sym step.delivery.name);
       }
 
-  pub is_feed_spanned : (m : ℕ) (numbers : List ℕ) (spans : List Span) (ps qs : List Pub) (f g : Feed) → Leaves m numbers f.name ps qs → AreWithin m numbers spans ps → IsFeed ps m acked tries tried f → IsWithdrawnBy numbers spans f g → IsFeed qs m acked tries tried g
-  is_feed_spanned m numbers spans ps qs f g leaves within is step = is_feed_withdrawn m numbers ps qs f g leaves is (numbers_withdrawn m numbers spans ps f g within is.rows step)
+  pub is_feed_spanned : (numbers : List ℕ) (spans : List Span) (qs : List Pub) (f g : Feed) → Leaves known.moment numbers f.name known.publications qs → AreWithin known.moment numbers spans known.publications
+      → IsFeed known f → IsWithdrawnBy numbers spans f g → IsFeed (record known { publications = qs }) g
+  is_feed_spanned numbers spans qs f g leaves within is step = is_feed_withdrawn numbers qs f g leaves is (numbers_withdrawn known.moment numbers spans known.publications f g within is.rows step)
 
   -- nothing that is due to it is another
-  pub is_feed_kept : (m : ℕ) (ps qs : List Pub) (f : Feed) → due_to f.name qs ≡ due_to f.name ps → IsFeed ps m acked tries tried f → IsFeed qs m acked tries tried f
-  is_feed_kept m ps qs f alike is = record {
+  pub is_feed_kept : (qs : List Pub) (f : Feed) → due_to f.name qs ≡ due_to f.name known.publications → IsFeed known f → IsFeed (record known { publications = qs }) f
+  is_feed_kept qs f alike is = record {
     rows = record {
       row = record { numbers = rw alike is.rows.row.numbers; releases = rw alike is.rows.row.releases };
       waiting = rw alike is.rows.waiting;
     };
-    stands = is.stands;
+    stands = stands_otherwise qs known.moment f is.stands;
     turn = rw alike is.turn;
   }
 
-  is_feed_added : (ps : List Pub) (m : ℕ) (p : Pub) (r : ℕ) (f g : Feed) → m ≤ r → release_to f.name p.due ≡ Some r → IsFeed ps m acked tries tried f → IsAddedTo p.number m r f g → IsFeed (p ∷ ps) m acked tries tried g
-  is_feed_added ps m p r f g le due is step =
-      let added : IsAdded (release_by p.number r) m f g = step.added in
-      let rows : IsRow (p ∷ ps) m g = is_row_added ps m p r f g le due is.rows added in
-      let stands : Stands acked tries tried g = stands_same acked tries tried f g added.delivery is.stands in
+  is_feed_added : (p : Pub) (r : ℕ) (f g : Feed) → known.moment ≤ r → release_to f.name p.due ≡ Some r → IsFeed known f → IsAddedTo p.number known.moment r f g → IsFeed (record known { publications = p ∷ known.publications }) g
+  is_feed_added p r f g le due is step =
+      let added : IsAdded (release_by p.number r) known.moment f g = step.added in
+      let rows : IsRow (p ∷ known.publications) known.moment g = is_row_added known.publications known.moment p r f g le due is.rows added in
+      let stands = stands_otherwise (p ∷ known.publications) known.moment g (stands_same known f g added.delivery is.stands) in
       record {
         rows = rows;
         stands = stands;
-        turn = step.turn ∙ turn_is (p ∷ ps) m acked tries tried g rows stands;
+        turn = step.turn ∙ turn_is (record known { publications = p ∷ known.publications }) g rows stands;
       }
 
-  added_one : (ps : List Pub) (m : ℕ) (p : Pub) (due : List Due) (f g : Feed) → m ≤ p.release → IsFair p → ((s : Bytes) → release_to s p.due ≡ release_to s due)
-      → IsFeed ps m acked tries tried f → ((r : ℕ) → release_to f.name due ≡ Some r → IsAddedTo p.number m r f g) → (release_to f.name due ≡ None → g ≡ f)
-      → (o : Option ℕ) → release_to f.name due ≡ o → IsFeed (p ∷ ps) m acked tries tried g
-  added_one ps m p due f g le fair alike is changed kept None e = rw (kept e) (is_feed_kept m ps (p ∷ ps) f (due_passed f.name p ps (alike f.name ∙ e)) is)
-  added_one ps m p due f g le fair alike is changed kept (Some r) e =
+  added_one : (p : Pub) (due : List Due) (f g : Feed) → known.moment ≤ p.release → IsFair p → ((s : Bytes) → release_to s p.due ≡ release_to s due)
+      → IsFeed known f → ((r : ℕ) → release_to f.name due ≡ Some r → IsAddedTo p.number known.moment r f g) → (release_to f.name due ≡ None → g ≡ f)
+      → (o : Option ℕ) → release_to f.name due ≡ o → IsFeed (record known { publications = p ∷ known.publications }) g
+  added_one p due f g le fair alike is changed kept None e = rw (kept e) (is_feed_kept (p ∷ known.publications) f (due_passed f.name p known.publications (alike f.name ∙ e)) is)
+  added_one p due f g le fair alike is changed kept (Some r) e =
       let here : release_to f.name p.due ≡ Some r = alike f.name ∙ e in
       let from : p.release ≤ r = release_from p.release f.name p.due r fair.from here in
-      is_feed_added ps m p r f g (omega (arith, le, from)) here is (changed r e)
+      is_feed_added p r f g (omega (arith, le, from)) here is (changed r e)
 
   -- one more publication
-  pub feeds_added : (ps : List Pub) (m : ℕ) (p : Pub) (due : List Due) (olds news : List Feed)
-      → Spread (IsAddedTo p.number m) due olds news → m ≤ p.release → IsFair p → ((s : Bytes) → release_to s p.due ≡ release_to s due)
-      → All (IsFeed ps m acked tries tried) olds → All (IsFeed (p ∷ ps) m acked tries tried) news
-  feeds_added ps m p due olds news spread le fair alike all k d lt =
+  pub feeds_added : (p : Pub) (due : List Due) (olds news : List Feed)
+      → Spread (IsAddedTo p.number known.moment) due olds news → known.moment ≤ p.release → IsFair p → ((s : Bytes) → release_to s p.due ≡ release_to s due)
+      → All (IsFeed known) olds → All (IsFeed (record known { publications = p ∷ known.publications })) news
+  feeds_added p due olds news spread le fair alike all k d lt =
       let within : k < length olds = omega (arith, spread.long, lt) in
-      added_one ps m p due (get_or olds k d) (get_or news k d) le fair alike (all k d within) (λ r. spread.changed k d r within) (spread.kept k d within) (release_to (name_of (get_or olds k d)) due) refl
+      added_one p due (get_or olds k d) (get_or news k d) le fair alike (all k d within) (λ r. spread.changed k d r within) (spread.kept k d within) (release_to (name_of (get_or olds k d)) due) refl
 
-  pub have_waiting : (ps : List Pub) (m : ℕ) (fs : List Feed) → All (IsFeed ps m acked tries tried) fs → All (HasWaiting ps m) fs
-  have_waiting ps m fs all k d lt = (all k d lt).rows.waiting
+  pub have_waiting : (fs : List Feed) → All (IsFeed known) fs → All (HasWaiting known.publications known.moment) fs
+  have_waiting fs all k d lt = (all k d lt).rows.waiting
 
-  -- the feed that a search found
-  pub feed_at : (ps : List Pub) (m : ℕ) (names : List Bytes) (fs : List Feed) (i : ℕ) (s : Bytes) (d : Feed) → map name_of fs ≡ names → (i < length names) × ((e : Bytes) → get_or names i e ≡ s)
-      → All (IsFeed ps m acked tries tried) fs → (name_of (get_or fs i d) ≡ s) × IsFeed ps m acked tries tried (get_or fs i d)
-  feed_at ps m names fs i s d named found all =
-      let long : length (map name_of fs) ≡ length fs = length-map fs name_of in
-      let same_long : length (map name_of fs) ≡ length names = ap length named in
-      let within : i < length fs = omega (arith, long, same_long, found.0) in
-      (sym (name_at fs i d within) ∙ ap (λ ns. get_or ns i (name_of d)) named ∙ found.1 (name_of d), all i d within)
+  -- the feed that was read where a search found it
+  pub feed_at : (fs : Feeds) (i : ℕ) (s : Bytes) (f : Feed) → (i < length fs.names.items) × ((e : Bytes) → get_or fs.names.items i e ≡ s) → f ≡ get_or fs.feeds.items i f
+      → All (IsFeed known) fs.feeds.items → (f.name ≡ s) × IsFeed known f
+  feed_at fs i s f found is all =
+      let long : length (map name_of fs.feeds.items) ≡ length fs.feeds.items = length-map fs.feeds.items name_of in
+      let same_long : length (map name_of fs.feeds.items) ≡ length fs.names.items = ap length fs.named in
+      let within : i < length fs.feeds.items = omega (arith, long, same_long, found.0) in
+      (ap name_of is ∙ sym (name_at fs.feeds.items i f within) ∙ ap (λ ns. get_or ns i f.name) fs.named ∙ found.1 f.name, subst (IsFeed known) (sym is) (all i f within))
 
 -- each feed goes on
 pub feeds_go : (R : Feed → Feed → Type 0) (P Q : Feed → Type 0) (olds news : List Feed) → EachGoes R olds news → ((f g : Feed) → P f → R f g → Q g) → All P olds → All Q news
@@ -239,9 +252,19 @@ feeds_one R P Q s olds news goes here there all k d lt = by (same (name_of (get_
 
 -- ---- others
 
-pub still_untouched : (ps : List Pub) (p : Pub) (acked tries tried : Bytes → ℕ) (s : Bytes) → release_to s p.due ≡ None → IsUntouched ps acked tries tried s → IsUntouched (p ∷ ps) acked tries tried s
-still_untouched ps p acked tries tried s none is = record {
-  due = due_passed s p ps none ∙ is.due;
+-- the subscribers are as they were
+pub subscribed_still : (olds news names : List Bytes) → news ≡ olds → ((s : Bytes) → is_in s olds ≡ is_in s names) → (s : Bytes) → is_in s news ≡ is_in s names
+subscribed_still olds news names are subscribed s = ap (is_in s) are ∙ subscribed s
+
+pub untouched_listed : (known : Facts) (s t : Bytes) → IsUntouched known t → IsUntouched (record known { names = s ∷ known.names }) t
+untouched_listed known s t is = record { due = is.due; receipt = is.receipt; attempts = is.attempts; last = is.last }
+
+pub untouched_later : (known : Facts) (n : ℕ) (s : Bytes) → IsUntouched known s → IsUntouched (record known { moment = n }) s
+untouched_later known n s is = record { due = is.due; receipt = is.receipt; attempts = is.attempts; last = is.last }
+
+pub still_untouched : (known : Facts) (p : Pub) (s : Bytes) → release_to s p.due ≡ None → IsUntouched known s → IsUntouched (record known { publications = p ∷ known.publications }) s
+still_untouched known p s none is = record {
+  due = due_passed s p known.publications none ∙ is.due;
   receipt = is.receipt;
   attempts = is.attempts;
   last = is.last;
@@ -262,41 +285,40 @@ entry_at ps (suc k) i le is = let e : i ≡ k = omega (arith, is) in rw e (get_m
 
 -- ---- a delivery stands otherwise
 
-set_here : (s t : Bytes) (n : ℕ) (before after : Bytes → ℕ) → IsSetTo s n before after → t ≡ s → after t ≡ n
-set_here s t n before after is e = is t ∙ rw (e, same_self s) refl
+set_here : (s t : Bytes) (n : ℕ) (before : Bytes → ℕ) → t ≡ s → cond (same s t) n (before t) ≡ n
+set_here s t n before e = rw (e, same_self s) refl
 
-set_there : (s t : Bytes) (n : ℕ) (before after : Bytes → ℕ) → IsSetTo s n before after → same t s ≡ false → after t ≡ before t
-set_there s t n before after is other = is t ∙ rw (nat_list_eq_equiv.symm s t ∙ other) refl
+set_there : (s t : Bytes) (n : ℕ) (before : Bytes → ℕ) → same t s ≡ false → cond (same s t) n (before t) ≡ before t
+set_there s t n before other = rw (nat_list_eq_equiv.symm s t ∙ other) refl
 
-pub feeds_delivered : (ps : List Pub) (m : ℕ) (names : List Bytes) (olds news : List Feed) (i : ℕ) (s : Bytes) (delivery : Delivery) (acked tries tried acked_then tries_then tried_then : Bytes → ℕ)
-    → Found names olds i s → IsSetTo s delivery.acked acked acked_then → IsSetTo s delivery.tries tries tries_then → IsSetTo s delivery.tried tried tried_then
-    → Sets (IsDeliveredTo delivery) i olds news → All (IsFeed ps m acked tries tried) olds → All (IsFeed ps m acked_then tries_then tried_then) news
-feeds_delivered ps m names olds news i s delivery acked tries tried acked_then tries_then tried_then found a t l sets all =
-    feeds_set (IsDeliveredTo delivery) (IsFeed ps m acked tries tried) (IsFeed ps m acked_then tries_then tried_then) names olds news i s found sets here there all
+pub feeds_delivered : (known : Facts) (names : List Bytes) (olds news : List Feed) (i : ℕ) (s : Bytes) (delivery : Delivery) → Found names olds i s → Sets (IsDeliveredTo delivery) i olds news
+    → All (IsFeed known) olds → All (IsFeed (delivered delivery s known)) news
+feeds_delivered known names olds news i s delivery found sets all =
+    feeds_set (IsDeliveredTo delivery) (IsFeed known) (IsFeed (delivered delivery s known)) names olds news i s found sets here there all
   where
-    here : (f g : Feed) → name_of f ≡ s → IsFeed ps m acked tries tried f → IsDeliveredTo delivery f g → IsFeed ps m acked_then tries_then tried_then g
+    here : (f g : Feed) → name_of f ≡ s → IsFeed known f → IsDeliveredTo delivery f g → IsFeed (delivered delivery s known) g
     here f g name is step =
         let name_is : name_of g ≡ s = step.delivered.name ∙ name in
-        let rows : IsRow ps m g = record {
+        let rows : IsRow known.publications known.moment g = record {
           row = record { numbers = rw step.delivered.name (step.delivered.row.numbers ∙ is.rows.row.numbers); releases = rw step.delivered.name (step.delivered.row.releases ∙ is.rows.row.releases) };
           waiting = rw step.delivered.name (step.delivered.waiting ∙ is.rows.waiting);
         } in
-        let stands : Stands acked_then tries_then tried_then g = record {
-          receipt = ap (λ (x : Delivery). x.acked) step.delivered.stands ∙ sym (set_here s (name_of g) delivery.acked acked acked_then a name_is);
-          attempts = ap (λ (x : Delivery). x.tries) step.delivered.stands ∙ sym (set_here s (name_of g) delivery.tries tries tries_then t name_is);
-          last = ap (λ (x : Delivery). x.tried) step.delivered.stands ∙ sym (set_here s (name_of g) delivery.tried tried tried_then l name_is);
+        let stands : Stands (delivered delivery s known) g = record {
+          receipt = ap (λ (x : Delivery). x.acked) step.delivered.stands ∙ sym (set_here s (name_of g) delivery.acked known.acked name_is);
+          attempts = ap (λ (x : Delivery). x.tries) step.delivered.stands ∙ sym (set_here s (name_of g) delivery.tries known.tries name_is);
+          last = ap (λ (x : Delivery). x.tried) step.delivered.stands ∙ sym (set_here s (name_of g) delivery.tried known.tried name_is);
         } in
         record {
           rows = rows;
           stands = stands;
-          turn = step.turn ∙ turn_is ps m acked_then tries_then tried_then g rows stands;
+          turn = step.turn ∙ turn_is (delivered delivery s known) g rows stands;
         }
 
-    there : (f : Feed) → same (name_of f) s ≡ false → IsFeed ps m acked tries tried f → IsFeed ps m acked_then tries_then tried_then f
+    there : (f : Feed) → same (name_of f) s ≡ false → IsFeed known f → IsFeed (delivered delivery s known) f
     there f other is =
-        let acked_is : acked_then f.name ≡ acked f.name = set_there s f.name delivery.acked acked acked_then a other in
-        let tries_are : tries_then f.name ≡ tries f.name = set_there s f.name delivery.tries tries tries_then t other in
-        let tried_is : tried_then f.name ≡ tried f.name = set_there s f.name delivery.tried tried tried_then l other in
+        let acked_is = set_there s f.name delivery.acked known.acked other in
+        let tries_are = set_there s f.name delivery.tries known.tries other in
+        let tried_is = set_there s f.name delivery.tried known.tried other in
         record {
           rows = is.rows;
           stands = record { receipt = rw acked_is is.stands.receipt; attempts = rw tries_are is.stands.attempts; last = rw tried_is is.stands.last };
@@ -304,14 +326,21 @@ feeds_delivered ps m names olds news i s delivery acked tries tried acked_then t
         }
 
 -- the others are as they were
-pub untouched_then : (ps : List Pub) (acked tries tried acked_then tries_then tried_then : Bytes → ℕ) (s t : Bytes) (a b c : ℕ) → same t s ≡ false
-    → IsSetTo s a acked acked_then → IsSetTo s b tries tries_then → IsSetTo s c tried tried_then → IsUntouched ps acked tries tried t → IsUntouched ps acked_then tries_then tried_then t
-untouched_then ps acked tries tried acked_then tries_then tried_then s t a b c other x y z is = record {
+pub untouched_then : (known : Facts) (s t : Bytes) (delivery : Delivery) → same t s ≡ false → IsUntouched known t → IsUntouched (delivered delivery s known) t
+untouched_then known s t delivery other is = record {
   due = is.due;
-  receipt = set_there s t a acked acked_then x other ∙ is.receipt;
-  attempts = set_there s t b tries tries_then y other ∙ is.attempts;
-  last = set_there s t c tried tried_then z other ∙ is.last;
+  receipt = set_there s t delivery.acked known.acked other ∙ is.receipt;
+  attempts = set_there s t delivery.tries known.tries other ∙ is.attempts;
+  last = set_there s t delivery.tried known.tried other ∙ is.last;
 }
+
+-- the facts where it stands so, told otherwise
+pub keeps_delivered : (q : Queue) (s : Bytes) (known : Facts) (a t l : ℕ) (acked tries tried : Bytes → ℕ)
+    → ((u : Bytes) → acked u ≡ cond (same s u) a (known.acked u)) → ((u : Bytes) → tries u ≡ cond (same s u) t (known.tries u)) → ((u : Bytes) → tried u ≡ cond (same s u) l (known.tried u))
+    → Keeps q (record known { acked = λ u. cond (same s u) a (known.acked u); tries = λ u. cond (same s u) t (known.tries u); tried = λ u. cond (same s u) l (known.tried u) })
+    → Keeps q (record known { acked = acked; tries = tries; tried = tried })
+keeps_delivered q s known a t l acked tries tried receipts attempts last keeps =
+    subst (Keeps q) (λ i. record known { acked = λ u. sym (receipts u) i; tries = λ u. sym (attempts u) i; tried = λ u. sym (last u) i }) keeps
 
 -- who is not there is not one who is
 pub another : (s t : Bytes) (names : List Bytes) → is_in s names ≡ true → is_in t names ≡ false → same t s ≡ false
@@ -354,9 +383,3 @@ few_tries (Some p) n last m ready = by (n == 0) refl (nat_lt n 10) refl ready
     by true e b f r = grind (arith, nat_tests)
     by false e true f r = grind (arith, nat_tests)
     by false e false f r = absurd (true≢false (sym r))
-
--- a feed that may be pushed goes on with an entry
-pub has_entry : (feed : List Dispatch) (a n last k : ℕ) → ready_from (slice_get feed a) n last ≡ Some k → a < length feed
-has_entry [] a n last k is = cc
-has_entry (p ∷ ps) zero n last k is = omega arith
-has_entry (p ∷ ps) (suc a) n last k is = let rest = has_entry ps a n last k is in omega (arith, rest)

@@ -6,12 +6,15 @@ use Rattle.std.specs.declared.cmp.Ordering.{Ordering}
 use Rattle.std.specs.declared.cmp.Ordering.TheVariants.{Less, Equal, Greater}
 use Rattle.std.specs.Ordering.{is_lt, is_eq, ordering_reverse, ordering_index}
 use Rattle.std.specs.Cmp.{IsTotalOrder}
-use Rattle.std.specs.List.{list_any, AllWithin, insert, remove}
-use Rattle.std.specs.List.Sorted.{IsSortedBy, IsNonDecreasingBy, IsSearchInRange, IsBinarySearchResult}
+use Rattle.std.specs.List.{list_any, AllByRecursion, AllWithin, insert, remove}
+use Rattle.std.specs.List.Sorted.{IsStrictlySortedBy, IsSortedBy, IsNonDecreasingBy, IsSearchInRange, IsBinarySearchResult}
 use Rattle.std.specs.Result.{result_ok, result_err}
 use Rattle.std.proofs.lemmas.List.Sorted.{searchable_from_sorted}
 use Rattle.std.proofs.lemmas.List.Folds.{list_any_at}
-use Rattle.publish_queue.specs.Order.{AllBehind, AscendsBy}
+
+-- each of them comes behind x
+abbrev pub AllBehind : {K : Type 0} → (K → K → Ordering) → K → List K → Type 0
+AllBehind order x ys = AllByRecursion (λ y. order x y ≡ Less) ys
 
 -- an order, and the test of what ties in it
 pub record IsOrder {K : Type 0} (order : K → K → Ordering) (same : K → K → Bool) : Type 0 where
@@ -39,14 +42,15 @@ module _ {K : Type 0} {order : K → K → Ordering} {same : K → K → Bool} (
   turned x y = o.total.antisymm x y
 
   -- neighbours are in order
-  sorted_by : (xs : List K) → AscendsBy order xs → IsSortedBy (λ a b. is_lt (order a b)) xs
+  sorted_by : (xs : List K) → IsStrictlySortedBy order xs → IsSortedBy (λ a b. is_lt (order a b)) xs
+  unfolding IsStrictlySortedBy
   sorted_by [] up k d low lt = absurd (omega (arith, lt))
   sorted_by (x ∷ []) up k d low lt = absurd (omega (arith, lt))
   sorted_by (x ∷ y ∷ ys) up zero d low lt = rw (turned y x, up.0.0) refl
   sorted_by (x ∷ y ∷ ys) up (suc k) d low lt = let e : suc k + 1 ≡ suc (k + 1) = omega arith in rw e (sorted_by (y ∷ ys) up.1 k d (omega arith) (omega (arith, lt)))
 
   -- a binary search may be made
-  pub searchable : (xs : List K) (x : K) → AscendsBy order xs → IsNonDecreasingBy (λ y. ordering_index (order y x)) xs
+  pub searchable : (xs : List K) (x : K) → IsStrictlySortedBy order xs → IsNonDecreasingBy (λ y. ordering_index (order y x)) xs
   searchable xs x up = searchable_from_sorted o.total (λ y. y) xs x (sorted_by xs up)
 
   pub equal_is : (x y : K) → order x y ≡ Equal → x ≡ y
@@ -81,7 +85,8 @@ module _ {K : Type 0} {order : K → K → Ordering} {same : K → K → Bool} (
   behind_insert y x (u ∷ us) (suc i) all e = (all.0, behind_insert y x us i all.1 e)
 
   -- and put there it is in order
-  pub ascends_insert : (x : K) (ys : List K) (i : ℕ) → AscendsBy order ys → i ≤ length ys → AllWithin (λ y. order y x ≡ Less) ys 0 i → AllWithin (λ y. order y x ≡ Greater) ys i (length ys) → AscendsBy order (insert ys i x)
+  pub ascends_insert : (x : K) (ys : List K) (i : ℕ) → IsStrictlySortedBy order ys → i ≤ length ys → AllWithin (λ y. order y x ≡ Less) ys 0 i → AllWithin (λ y. order y x ≡ Greater) ys i (length ys) → IsStrictlySortedBy order (insert ys i x)
+  unfolding IsStrictlySortedBy
   ascends_insert x ys zero up le below above = (all_behind x ys (λ k d lt. above k d (omega arith) lt), up)
   ascends_insert x [] (suc i) up le below above = absurd (omega (arith, le))
   ascends_insert x (y ∷ ys) (suc i) up le below above = (
@@ -102,7 +107,8 @@ module _ {K : Type 0} {order : K → K → Ordering} {same : K → K → Bool} (
   less_apart x y e is = true≢false (sym (o.self y) ∙ less_not y y (ap (λ u. order u y) (sym is) ∙ e))
 
   -- two places have two members
-  pub apart : (ys : List K) (i j : ℕ) (d : K) → AscendsBy order ys → i < j → j < length ys → get_or ys i d ≡ get_or ys j d → ⊥
+  pub apart : (ys : List K) (i j : ℕ) (d : K) → IsStrictlySortedBy order ys → i < j → j < length ys → get_or ys i d ≡ get_or ys j d → ⊥
+  unfolding IsStrictlySortedBy
   apart [] i j d up less lt is = omega (arith, lt)
   apart (x ∷ xs) zero zero d up less lt is = omega (arith, less)
   apart (x ∷ xs) zero (suc j) d up less lt is = less_apart x (get_or xs j d) (behind_at x xs j d up.0 (omega (arith, lt))) is
@@ -110,7 +116,7 @@ module _ {K : Type 0} {order : K → K → Ordering} {same : K → K → Bool} (
   apart (x ∷ xs) (suc i) (suc j) d up less lt is = apart xs i j d up.1 (omega (arith, less)) (omega (arith, lt)) is
 
   -- what a binary search says
-  pub searched : (x : K) (ys : List K) (r : Result ℕ ℕ) → IsSearchInRange r (length ys) → IsBinarySearchResult (λ y. order y x) ys r → AscendsBy order ys
+  pub searched : (x : K) (ys : List K) (r : Result ℕ ℕ) → IsSearchInRange r (length ys) → IsBinarySearchResult (λ y. order y x) ys r → IsStrictlySortedBy order ys
       → MatchOption (result_ok r) (list_any (same x) ys ≡ false) (λ at. (at < length ys) × ((d : K) → get_or ys at d ≡ x))
   searched x ys (Ok at) within is up = (within, λ d. equal_is (get_or ys at d) x (is d))
   searched x ys (Err at) within is up = let point = is (searchable ys x up) in absent x ys at point.0 point.1
@@ -123,18 +129,20 @@ module _ {K : Type 0} {order : K → K → Ordering} {same : K → K → Bool} (
   behind_remove y (u ∷ us) zero all = all.1
   behind_remove y (u ∷ us) (suc i) all = (all.0, behind_remove y us i all.1)
 
-  pub ascends_remove : (ys : List K) (i : ℕ) → AscendsBy order ys → AscendsBy order (remove ys i)
+  pub ascends_remove : (ys : List K) (i : ℕ) → IsStrictlySortedBy order ys → IsStrictlySortedBy order (remove ys i)
+  unfolding IsStrictlySortedBy
   ascends_remove [] zero up = tt
   ascends_remove [] (suc i) up = tt
   ascends_remove (y ∷ ys) zero up = up.1
   ascends_remove (y ∷ ys) (suc i) up = (behind_remove y ys i up.0, ascends_remove ys i up.1)
 
-  none_behind : (x : K) (ys : List K) → AllBehind order x ys → list_any (same x) ys ≡ false
+  pub none_behind : (x : K) (ys : List K) → AllBehind order x ys → list_any (same x) ys ≡ false
   none_behind x [] all = refl
   none_behind x (y ∷ ys) all = rw (o.ties x y ∙ ap is_eq all.0) (none_behind x ys all.1)
 
   -- the others are there as before
-  pub in_remove : (c x : K) (ys : List K) (i : ℕ) (d : K) → AscendsBy order ys → i < length ys → get_or ys i d ≡ x → list_any (same c) (remove ys i) ≡ (list_any (same c) ys && not (same c x))
+  pub in_remove : (c x : K) (ys : List K) (i : ℕ) (d : K) → IsStrictlySortedBy order ys → i < length ys → get_or ys i d ≡ x → list_any (same c) (remove ys i) ≡ (list_any (same c) ys && not (same c x))
+  unfolding IsStrictlySortedBy
   in_remove c x [] i d up lt e = absurd (omega (arith, lt))
   in_remove c x (y ∷ ys) zero d up lt e = by (same c y) refl
     where
@@ -163,7 +171,7 @@ module _ {K : Type 0} {order : K → K → Ordering} {same : K → K → Bool} (
       by false is = sym (and_true (list_any (same c) ys))
 
   -- where a member may be put
-  pub places : (x : K) (ys : List K) (r : Result ℕ ℕ) → IsSearchInRange r (length ys) → IsBinarySearchResult (λ y. order y x) ys r → AscendsBy order ys
-      → MatchOption (result_err r) (list_any (same x) ys ≡ true) (λ at. AscendsBy order (insert ys at x))
+  pub places : (x : K) (ys : List K) (r : Result ℕ ℕ) → IsSearchInRange r (length ys) → IsBinarySearchResult (λ y. order y x) ys r → IsStrictlySortedBy order ys
+      → MatchOption (result_err r) (list_any (same x) ys ≡ true) (λ at. IsStrictlySortedBy order (insert ys at x))
   places x ys (Ok at) within is up = present x ys at x within (equal_is (get_or ys at x) x (is x))
   places x ys (Err at) within is up = let point = is (searchable ys x up) in ascends_insert x ys at up within point.0 point.1

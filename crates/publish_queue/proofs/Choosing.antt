@@ -1,9 +1,10 @@
 -- Which feed is pushed next: the first in turn is the earliest.
-use Rattle.std.proofs.Common.{◌≡◌, ℕ, zero, suc, ◌<◌, ◌≤◌, Bool, true, false, cond, not, ◌&&◌, ◌||◌, ◌==◌, List, [], ◌∷◌, length, map, slice_get, min, Option, Some, None, refl, sym, ap, ◌∙◌, subst, arith, ◌⊎◌, inl, inr}
+use Rattle.std.proofs.Common.{◌≡◌, ℕ, zero, suc, ◌+◌, ◌<◌, ◌≤◌, Bool, true, false, cond, not, ◌&&◌, ◌||◌, ◌==◌, List, [], ◌∷◌, length, map, slice_get, min, Option, Some, None, refl, sym, ap, ◌∙◌, subst, arith, ◌⊎◌, inl, inr}
 use mathlib.Core.Bool.{true≢false}
 use Rattle.std.specs.Prelude.{nat_le, nat_lt, filter_map}
 use Rattle.std.specs.Option.{option_map}
 use Rattle.std.specs.List.{All, cons_option}
+use Rattle.std.specs.List.Sorted.{IsStrictlySortedBy}
 use Rattle.std.specs.Cmp.Lexicographic.{slice_cmp, nat_list_eq_equiv, nat_list_cmp_total, texts_ties}
 use Rattle.std.specs.declared.cmp.Ordering.{Ordering}
 use Rattle.std.specs.declared.cmp.Ordering.TheVariants.{Less, Equal, Greater}
@@ -13,21 +14,22 @@ use Rattle.std.proofs.lemmas.Bool.Decides.{nat_tests, Decides-eqb}
 use Rattle.std.proofs.lemmas.List.{length-map}
 use Rattle.std.proofs.lemmas.List.Elements.{All-head, All-tail}
 use Rattle.news_types.specs.Names.{Bytes, same, is_in}
-use Rattle.news_types.specs.Due.{Pub}
 use Rattle.news_types.specs.Feeds.{Dispatch, feed_of, waiting_of}
-use Rattle.news_types.specs.Delivery.{Candidate, candidate, comes_first, earlier, earliest, is_by, pauses, first_release, or_else}
-use Rattle.news_types.proofs.Members.{same_is, same_self, some_is}
+use Rattle.news_types.specs.Delivery.{Candidate, candidate, ready_from, comes_first, earlier, earliest, is_by, pauses, first_release, or_else}
+use Rattle.news_types.proofs.Members.{same_is, same_self, some_is, none_some}
 use Rattle.publish_queue.specs.declared.feed.Feed.{Feed}
 use Rattle.publish_queue.specs.declared.queue.Queue.{Queue}
 use Rattle.publish_queue.specs.declared.turns.Turn.{Turn}
-use Rattle.publish_queue.specs.Order.{AllBehind, AscendsBy}
-use Rattle.publish_queue.specs.Ready.{later_by}
+use Rattle.publish_queue.proofs.Ascending.{AllBehind}
+use Rattle.publish_queue.specs.Ready.{later_by, next_by}
 use Rattle.publish_queue.specs.Rows.{live, next_in}
 use Rattle.publish_queue.specs.Coming.{sooner}
 use Rattle.publish_queue.specs.Turns.{by_turn, same_turn, has, is_at}
 use Rattle.publish_queue.specs.Many.{turn_in, name_of}
-use Rattle.publish_queue.specs.Keeps.{Keeps, IsFeed, IsUntouched, turn_of, release_of, number_of}
-use Rattle.publish_queue.specs.Choice.{ready_candidate_of, later_moment_of, moment_of_candidate, first_among, candidate_at, soonest}
+use Rattle.publish_queue.specs.Keeps.{Facts, Keeps, IsFeed, IsUntouched, turn_of, release_of, number_of}
+use Rattle.news_types.specs.declared.query.Ready.{Ready}
+use Rattle.news_types.specs.declared.query.Ready.TheVariants.{Now, Later}
+use Rattle.publish_queue.specs.Choice.{ready_candidate_of, later_candidate_of, now_of, ready_of, chosen_of, choice_of, later_moment_of, moment_of_candidate, first_among, candidate_at, soonest}
 use Rattle.publish_queue.proofs.TurnOrder.{turns_order}
 
 -- ---- the least moment of some
@@ -76,38 +78,41 @@ mapped_back : (s : Bytes) (o : Option ℕ) → option_map moment_of_candidate (o
 mapped_back s None = refl
 mapped_back s (Some n) = refl
 
-pub later_is : (names : List Bytes) (ps : List Pub) (m : ℕ) (acked tries tried : Bytes → ℕ) (s : Bytes) (f : Feed) → is_in s names ≡ true → name_of f ≡ s → IsFeed ps m acked tries tried f
-    → later_by f ≡ later_moment_of names ps m acked tries tried s
-later_is names ps m acked tries tried s f there name is =
+pub later_is : (known : Facts) (s : Bytes) (f : Feed) → is_in s known.names ≡ true → name_of f ≡ s → IsFeed known f → later_by f ≡ later_moment_of known s
+later_is known s f there name is =
+    let ps = known.publications in
+    let m = known.moment in
     let long : length f.row.numbers.items ≡ length (feed_of ps m s) = ap length is.rows.row.numbers ∙ length-map (feed_of ps m f.name) number_of ∙ ap (λ t. length (feed_of ps m t)) name in
-    let acked_is : f.delivery.acked ≡ acked s = is.stands.receipt ∙ ap acked name in
-    let tries_are : f.delivery.tries ≡ tries s = is.stands.attempts ∙ ap tries name in
-    let turn : f.turn ≡ turn_of ps m acked tries tried s = is.turn ∙ ap (turn_of ps m acked tries tried) name in
+    let acked_is : f.delivery.acked ≡ known.acked s = is.stands.receipt ∙ ap known.acked name in
+    let tries_are : f.delivery.tries ≡ known.tries s = is.stands.attempts ∙ ap known.tries name in
+    let turn : f.turn ≡ turn_of known s = is.turn ∙ ap (turn_of known) name in
     let waits : next_in (live f.waiting.releases.items) ≡ first_release (waiting_of ps m s) =
     ap next_in is.rows.waiting ∙ first_is (waiting_of ps m f.name) ∙ ap (λ t. first_release (waiting_of ps m t)) name in
-    rw (there, pauses_is (feed_of ps m s) (acked s) (tries s), long, acked_is, tries_are, turn, waits) (by (nat_lt (acked s) (length (feed_of ps m s)) && tries s == 10))
+    rw (there, pauses_is (feed_of ps m s) (known.acked s) (known.tries s), long, acked_is, tries_are, turn, waits) (by (nat_lt (known.acked s) (length (feed_of ps m s)) && known.tries s == 10))
   where
-    by : (b : Bool) → cond b None (or_else (turn_of ps m acked tries tried s) (first_release (waiting_of ps m s))) ≡ option_map moment_of_candidate (cond (not b) (option_map (candidate s) (or_else (turn_of ps m acked tries tried s) (first_release (waiting_of ps m s)))) None)
+    next : Option ℕ
+    next = or_else (turn_of known s) (first_release (waiting_of known.publications known.moment s))
+
+    by : (b : Bool) → cond b None next ≡ option_map moment_of_candidate (cond (not b) (option_map (candidate s) next) None)
     by true = refl
-    by false = sym (mapped_back s (or_else (turn_of ps m acked tries tried s) (first_release (waiting_of ps m s))))
+    by false = sym (mapped_back s next)
 
 -- ---- the turns are those of the publications
 
-pub turn_none : (ps : List Pub) (m : ℕ) (acked tries tried : Bytes → ℕ) (s : Bytes) → IsUntouched ps acked tries tried s → turn_of ps m acked tries tried s ≡ None
-turn_none ps m acked tries tried s is = rw is.due refl
+pub turn_none : (known : Facts) (s : Bytes) → IsUntouched known s → turn_of known s ≡ None
+turn_none known s is = rw is.due refl
 
-turns_in : (ps : List Pub) (m : ℕ) (acked tries tried : Bytes → ℕ) (fs : List Feed) (s : Bytes) → All (IsFeed ps m acked tries tried) fs → (is_in s (map name_of fs) ≡ false → turn_of ps m acked tries tried s ≡ None)
-    → turn_in fs s ≡ turn_of ps m acked tries tried s
-turns_in ps m acked tries tried [] s all none = sym (none refl)
-turns_in ps m acked tries tried (f ∷ fs) s all none = by (same f.name s) refl (turns_in ps m acked tries tried fs s (All-tail (IsFeed ps m acked tries tried) f fs all))
+turns_in : (known : Facts) (fs : List Feed) (s : Bytes) → All (IsFeed known) fs → (is_in s (map name_of fs) ≡ false → turn_of known s ≡ None) → turn_in fs s ≡ turn_of known s
+turns_in known [] s all none = sym (none refl)
+turns_in known (f ∷ fs) s all none = by (same f.name s) refl (turns_in known fs s (All-tail (IsFeed known) f fs all))
   where
-    by : (b : Bool) → same f.name s ≡ b → ((is_in s (map name_of fs) ≡ false → turn_of ps m acked tries tried s ≡ None) → turn_in fs s ≡ turn_of ps m acked tries tried s) → cond b f.turn (turn_in fs s) ≡ turn_of ps m acked tries tried s
-    by true e rest = (All-head (IsFeed ps m acked tries tried) f fs all).turn ∙ ap (turn_of ps m acked tries tried) (same_is f.name s e)
+    by : (b : Bool) → same f.name s ≡ b → ((is_in s (map name_of fs) ≡ false → turn_of known s ≡ None) → turn_in fs s ≡ turn_of known s) → cond b f.turn (turn_in fs s) ≡ turn_of known s
+    by true e rest = (All-head (IsFeed known) f fs all).turn ∙ ap (turn_of known) (same_is f.name s e)
     by false e rest = rest (λ absent. none (rw (nat_list_eq_equiv.symm s f.name ∙ e) absent))
 
-pub turns_are : (q : Queue) (names : List Bytes) (ps : List Pub) (m : ℕ) (acked tries tried : Bytes → ℕ) → Keeps q names ps m acked tries tried → (s : Bytes) → turn_in q.feeds.items s ≡ turn_of ps m acked tries tried s
-turns_are q names ps m acked tries tried keeps s =
-    turns_in ps m acked tries tried q.feeds.items s keeps.feeds (λ absent. turn_none ps m acked tries tried s (keeps.others s (sym (keeps.subscribed s) ∙ ap (is_in s) (sym q.named) ∙ absent)))
+pub turns_are : (q : Queue) (known : Facts) → Keeps q known → (s : Bytes) → turn_in q.feeds.feeds.items s ≡ turn_of known s
+turns_are q known keeps s =
+    turns_in known q.feeds.feeds.items s keeps.feeds (λ absent. turn_none known s (keeps.others s (sym (keeps.subscribed s) ∙ ap (is_in s) (sym q.feeds.named) ∙ absent)))
 
 -- ---- the first in turn
 
@@ -128,7 +133,8 @@ less_moment t c less = by (nat_lt t.moment c.moment) refl (t.moment == c.moment)
     by false e false f is = cc
 
 -- none of these is due
-pub first_none : (asked : List Bytes) (m : ℕ) (ts : List Turn) → AscendsBy by_turn ts → first_among asked m ts ≡ None → (c : Turn) → has c ts ≡ true → nat_le c.moment m ≡ true → is_in c.name asked ≡ false
+pub first_none : (asked : List Bytes) (m : ℕ) (ts : List Turn) → IsStrictlySortedBy by_turn ts → first_among asked m ts ≡ None → (c : Turn) → has c ts ≡ true → nat_le c.moment m ≡ true → is_in c.name asked ≡ false
+unfolding IsStrictlySortedBy
 first_none asked m [] up none c there due = absurd (true≢false (sym there))
 first_none asked m (t ∷ ts) up none c there due = by (nat_le t.moment m) refl (is_in t.name asked) refl none (same_turn c t) refl there (first_none asked m ts up.1)
   where
@@ -162,7 +168,8 @@ later : (asked : List Bytes) (m : ℕ) (u : Turn) (us : List Turn) (t c : Turn) 
 later asked m u us t c first true e there due among not-among = absurd (true≢false (sym among ∙ ap (λ (v : Turn). is_in v.name asked) (turns_order.is c u e) ∙ not-among))
 later asked m u us t c first false e there due among not-among = first.before c there due among
 
-pub first_some : (asked : List Bytes) (m : ℕ) (ts : List Turn) (t : Turn) → AscendsBy by_turn ts → first_among asked m ts ≡ Some t → IsFirst asked m ts t
+pub first_some : (asked : List Bytes) (m : ℕ) (ts : List Turn) (t : Turn) → IsStrictlySortedBy by_turn ts → first_among asked m ts ≡ Some t → IsFirst asked m ts t
+unfolding IsStrictlySortedBy
 first_some asked m [] t up is = cc
 first_some asked m (u ∷ us) t up is = by (nat_le u.moment m) refl (is_in u.name asked) refl is (first_some asked m us t up.1)
   where
@@ -295,28 +302,28 @@ at_is : (m : ℕ) (o : Option ℕ) → is_at m o ≡ true → o ≡ Some m
 at_is m None e = absurd (true≢false (sym e))
 at_is m (Some n) e = ap Some (sym ((Decides-eqb m n).0 e))
 
-module _ (names : List Bytes) (ps : List Pub) (m : ℕ) (acked tries tried : Bytes → ℕ) (ts : List Turn) (up : AscendsBy by_turn ts)
-    (turns : (c : Turn) → has c ts ≡ is_at c.moment (turn_of ps m acked tries tried c.name)) (others : (s : Bytes) → is_in s names ≡ false → turn_of ps m acked tries tried s ≡ None) (asked : List Bytes) (at : ℕ) where
+module _ (known : Facts) (ts : List Turn) (up : IsStrictlySortedBy by_turn ts)
+    (turns : (c : Turn) → has c ts ≡ is_at c.moment (turn_of known c.name)) (others : (s : Bytes) → is_in s known.names ≡ false → turn_of known s ≡ None) (asked : List Bytes) (at : ℕ) where
   -- what a candidate says
-  ready : (s : Bytes) (y : Candidate) → ready_candidate_of names ps m acked tries tried at s ≡ Some y → (n : ℕ) × ((turn_of ps m acked tries tried s ≡ Some n) × (nat_le n at ≡ true) × (y ≡ candidate s n))
-  ready s y is = by (is_in s names) (turn_of ps m acked tries tried s) refl is
+  ready : (s : Bytes) (y : Candidate) → ready_candidate_of known at s ≡ Some y → (n : ℕ) × ((turn_of known s ≡ Some n) × (nat_le n at ≡ true) × (y ≡ candidate s n))
+  ready s y is = by (is_in s known.names) (turn_of known s) refl is
     where
-      by : (b : Bool) (o : Option ℕ) → turn_of ps m acked tries tried s ≡ o → cond (b && is_by at o) (option_map (candidate s) o) None ≡ Some y → (n : ℕ) × ((turn_of ps m acked tries tried s ≡ Some n) × (nat_le n at ≡ true) × (y ≡ candidate s n))
+      by : (b : Bool) (o : Option ℕ) → turn_of known s ≡ o → cond (b && is_by at o) (option_map (candidate s) o) None ≡ Some y → (n : ℕ) × ((turn_of known s ≡ Some n) × (nat_le n at ≡ true) × (y ≡ candidate s n))
       by false o e found = cc
       by true None e found = cc
       by true (Some n) e found = due (nat_le n at) refl found
         where
-          due : (d : Bool) → nat_le n at ≡ d → cond d (Some (candidate s n)) None ≡ Some y → (k : ℕ) × ((turn_of ps m acked tries tried s ≡ Some k) × (nat_le k at ≡ true) × (y ≡ candidate s k))
+          due : (d : Bool) → nat_le n at ≡ d → cond d (Some (candidate s n)) None ≡ Some y → (k : ℕ) × ((turn_of known s ≡ Some k) × (nat_le k at ≡ true) × (y ≡ candidate s k))
           due true f found = (n, (e, f, sym (some_is (candidate s n) y found)))
           due false f found = cc
 
-  member : (s : Bytes) (n : ℕ) → turn_of ps m acked tries tried s ≡ Some n → has (record { moment = n; name = s }) ts ≡ true
+  member : (s : Bytes) (n : ℕ) → turn_of known s ≡ Some n → has (record { moment = n; name = s }) ts ≡ true
   member s n is = turns (record { moment = n; name = s }) ∙ ap (is_at n) is ∙ (Decides-eqb n n).1 refl
 
-  pub chosen_none : first_among asked at ts ≡ None → earliest (filter_map (ready_candidate_of names ps m acked tries tried at) asked) ≡ None
-  chosen_none none = earliest_none (ready_candidate_of names ps m acked tries tried at) asked (λ s among. by s among (ready_candidate_of names ps m acked tries tried at s) refl)
+  pub chosen_none : first_among asked at ts ≡ None → earliest (filter_map (ready_candidate_of known at) asked) ≡ None
+  chosen_none none = earliest_none (ready_candidate_of known at) asked (λ s among. by s among (ready_candidate_of known at s) refl)
     where
-      by : (s : Bytes) → is_in s asked ≡ true → (o : Option Candidate) → ready_candidate_of names ps m acked tries tried at s ≡ o → o ≡ None
+      by : (s : Bytes) → is_in s asked ≡ true → (o : Option Candidate) → ready_candidate_of known at s ≡ o → o ≡ None
       by s among None e = refl
       by s among (Some y) e =
           let r = ready s y e in
@@ -324,13 +331,13 @@ module _ (names : List Bytes) (ps : List Pub) (m : ℕ) (acked tries tried : Byt
           absurd (true≢false (sym among ∙ absent))
 
   pub chosen_some : (t : Turn) → first_among asked at ts ≡ Some t
-      → (earliest (filter_map (ready_candidate_of names ps m acked tries tried at) asked) ≡ Some (candidate_at t)) × (turn_of ps m acked tries tried t.name ≡ Some t.moment) × (is_in t.name names ≡ true)
+      → (earliest (filter_map (ready_candidate_of known at) asked) ≡ Some (candidate_at t)) × (turn_of known t.name ≡ Some t.moment) × (is_in t.name known.names ≡ true)
   chosen_some t is =
       let first : IsFirst asked at ts t = first_some asked at ts t up is in
-      let turn : turn_of ps m acked tries tried t.name ≡ Some t.moment = at_is t.moment (turn_of ps m acked tries tried t.name) (sym (turns t) ∙ first.there) in
-      let there : is_in t.name names ≡ true = known (is_in t.name names) refl turn in
-      let itself : ready_candidate_of names ps m acked tries tried at t.name ≡ Some (candidate_at t) = rw (there, turn, first.due) refl in (
-        earliest_is (ready_candidate_of names ps m acked tries tried at) (candidate_at t) asked first.among itself (λ s among y e.
+      let turn : turn_of known t.name ≡ Some t.moment = at_is t.moment (turn_of known t.name) (sym (turns t) ∙ first.there) in
+      let there : is_in t.name known.names ≡ true = is_listed (is_in t.name known.names) refl turn in
+      let itself : ready_candidate_of known at t.name ≡ Some (candidate_at t) = rw (there, turn, first.due) refl in (
+        earliest_is (ready_candidate_of known at) (candidate_at t) asked first.among itself (λ s among y e.
             let r = ready s y e in
             let c : Turn = record { moment = r.0; name = s } in
             rw r.1.2 (not_after t c (first.before c (member s r.0 r.1.0) r.1.1 among))),
@@ -338,6 +345,60 @@ module _ (names : List Bytes) (ps : List Pub) (m : ℕ) (acked tries tried : Byt
         there,
       )
     where
-      known : (b : Bool) → is_in t.name names ≡ b → turn_of ps m acked tries tried t.name ≡ Some t.moment → b ≡ true
-      known true e turn = refl
-      known false e turn = let none = others t.name e in cc
+      is_listed : (b : Bool) → is_in t.name known.names ≡ b → turn_of known t.name ≡ Some t.moment → b ≡ true
+      is_listed true e turn = refl
+      is_listed false e turn = let none = others t.name e in cc
+
+-- ---- the first feed in turn
+
+module _ (q : Queue) (known : Facts) (keeps : Keeps q known) (asked : List Bytes) (at : ℕ) where
+  members : (c : Turn) → has c q.feeds.turns.turns.items ≡ is_at c.moment (turn_of known c.name)
+  members c = keeps.ordered.holds.member c ∙ ap (is_at c.moment) (turns_are q known keeps c.name)
+
+  strangers : (s : Bytes) → is_in s known.names ≡ false → turn_of known s ≡ None
+  strangers s none = turn_none known s (keeps.others s none)
+
+  -- it is a subscriber's, and goes on with the entry behind those that were acknowledged
+  pub ready_some : (t : Turn) → first_among asked at q.feeds.turns.turns.items ≡ Some t
+      → (ready_of known asked at ≡ Some (Now t.name (known.acked t.name + 1))) × (turn_of known t.name ≡ Some t.moment) × (is_in t.name known.names ≡ true)
+  ready_some t is =
+      let chosen = chosen_some known q.feeds.turns.turns.items keeps.ordered.holds.ascends members strangers asked at t is in
+      (ap (option_map (now_of known)) chosen.0, chosen.1, chosen.2)
+
+  pub ready_none : first_among asked at q.feeds.turns.turns.items ≡ None → ready_of known asked at ≡ None
+  ready_none none = ap (option_map (now_of known)) (chosen_none known q.feeds.turns.turns.items keeps.ordered.holds.ascends members strangers asked at none)
+
+  -- its feed is there
+  pub ready_there : (t : Turn) → first_among asked at q.feeds.turns.turns.items ≡ Some t → is_in t.name q.feeds.names.items ≡ true
+  ready_there t is = keeps.subscribed t.name ∙ (ready_some t is).2
+
+module _ (known : Facts) (asked : List Bytes) (at : ℕ) where
+  pub choice_some : (r : Ready) → Some r ≡ ready_of known asked at → r ≡ choice_of known asked at
+  choice_some r is = by (earliest (filter_map (ready_candidate_of known at) asked)) is
+    where
+      by : (o : Option Candidate) → Some r ≡ option_map (now_of known) o → r ≡ chosen_of known o asked
+      by None e = absurd (none_some r (sym e))
+      by (Some found) e = some_is r (now_of known found) e
+
+  pub choice_none : (next : Option ℕ) → None ≡ ready_of known asked at → next ≡ soonest (later_moment_of known) asked → Later next ≡ choice_of known asked at
+  choice_none next none is = by (earliest (filter_map (ready_candidate_of known at) asked)) none
+    where
+      by : (o : Option Candidate) → None ≡ option_map (now_of known) o → Later next ≡ chosen_of known o asked
+      by None e = ap Later (is ∙ sym (soonest_is (later_candidate_of known) asked))
+      by (Some found) e = absurd (none_some (now_of known found) e)
+
+-- a feed that may be pushed goes on with an entry
+has_entry : (feed : List Dispatch) (a n last k : ℕ) → ready_from (slice_get feed a) n last ≡ Some k → a < length feed
+has_entry [] a n last k is = cc
+has_entry (p ∷ ps) zero n last k is = omega arith
+has_entry (p ∷ ps) (suc a) n last k is = let rest = has_entry ps a n last k is in omega (arith, rest)
+
+pub goes_on : (known : Facts) (s : Bytes) (f : Feed) (n : ℕ) → f.name ≡ s → IsFeed known f → turn_of known s ≡ Some n → next_by f ≡ Some (known.acked s + 1)
+goes_on known s f n name is turn =
+    let feed = feed_of known.publications known.moment s in
+    let long : length f.row.numbers.items ≡ length feed =
+    ap length is.rows.row.numbers ∙ length-map (feed_of known.publications known.moment f.name) number_of ∙ ap (λ t. length (feed_of known.publications known.moment t)) name in
+    let acked_is : f.delivery.acked ≡ known.acked s = is.stands.receipt ∙ ap known.acked name in
+    let within : known.acked s < length feed = has_entry feed (known.acked s) (known.tries s) (known.tried s) n turn in
+    let yes : nat_lt (known.acked s) (length feed) ≡ true = grind (arith, nat_tests, within) in
+    rw (long, acked_is, yes) refl

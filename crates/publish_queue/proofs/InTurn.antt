@@ -1,24 +1,25 @@
 -- The turns of the feeds.
-use Rattle.std.proofs.Common.{◌≡◌, ℕ, zero, suc, ◌+◌, ◌<◌, ◌≤◌, Bool, true, false, cond, List, [], ◌∷◌, length, map, get_or, set, Option, Some, None, vec_len, vec_capacity, refl, sym, ap, ◌∙◌, arith}
+use Rattle.std.proofs.Common.{◌≡◌, ℕ, zero, suc, ◌+◌, ◌<◌, ◌≤◌, Bool, true, false, cond, List, [], ◌∷◌, length, map, get_or, set, Option, Some, None, vec_len, vec_capacity, refl, sym, ap, subst, ◌∙◌, arith}
 use mathlib.Core.Bool.{true≢false}
 use Rattle.std.specs.Prelude.{nat_le}
 use Rattle.std.proofs.lemmas.Bool.Decides.{nat_tests}
 use Rattle.std.specs.Cmp.Lexicographic.{slice_cmp, nat_list_eq_equiv}
 use Rattle.std.specs.Ordering.{nat_cmp}
+use Rattle.std.specs.List.Sorted.{IsStrictlySortedBy}
 use Rattle.std.proofs.lemmas.List.{length-set}
-use Rattle.news_types.specs.Names.{Bytes, same}
+use Rattle.news_types.specs.Names.{Bytes, same, AreInOrder}
 use Rattle.news_types.proofs.Members.{same_is, same_self}
 use Rattle.publish_queue.specs.declared.release.Release.{Release}
 use Rattle.publish_queue.specs.declared.feed.Delivery.{Delivery}
 use Rattle.publish_queue.specs.declared.feed.Feed.{Feed}
+use Rattle.publish_queue.specs.declared.queue.Feeds.{Feeds}
 use Rattle.publish_queue.specs.declared.turns.Turns.{Turns}
-use Rattle.publish_queue.specs.Order.{AllBehind, Ascends}
-use Rattle.publish_queue.specs.Turns.{HoldsTurns, is_at, one}
+use Rattle.publish_queue.specs.Turns.{HoldsTurns, by_turn, is_at, one}
 use Rattle.publish_queue.specs.Ready.{row_turn}
 use Rattle.publish_queue.specs.Rows.{live, FirstIsLater, moved, left, number_in, moment_in}
 use Rattle.publish_queue.specs.Steps.{IsAlike, IsAdded, IsAdvanced, IsDelivered}
 use Rattle.publish_queue.specs.Many.{turn_in, turn_count, name_of, IsOrdered, IsSettled}
-use Rattle.publish_queue.proofs.Ascending.{less_not}
+use Rattle.publish_queue.proofs.Ascending.{AllBehind, less_not}
 use Rattle.publish_queue.proofs.ByName.{names_order}
 
 -- ---- a feed is changed
@@ -56,8 +57,13 @@ cond_same : {A : Type 0} (b : Bool) (x y : A) → cond b x (cond b y y) ≡ cond
 cond_same true x y = refl
 cond_same false x y = refl
 
+-- the names of the feeds are in order
+pub in_order : (fs : Feeds) → AreInOrder (map name_of fs.feeds.items)
+in_order fs = rw fs.named fs.ascends
+
 -- its turn is another one
-pub turn_set : (fs : List Feed) (i : ℕ) (f g : Feed) (s : Bytes) → Ascends (map name_of fs) → i < length fs → f ≡ get_or fs i f → g.name ≡ f.name → turn_in (set fs i g) s ≡ cond (same f.name s) g.turn (turn_in fs s)
+pub turn_set : (fs : List Feed) (i : ℕ) (f g : Feed) (s : Bytes) → AreInOrder (map name_of fs) → i < length fs → f ≡ get_or fs i f → g.name ≡ f.name → turn_in (set fs i g) s ≡ cond (same f.name s) g.turn (turn_in fs s)
+unfolding IsStrictlySortedBy
 turn_set [] i f g s up lt is name = absurd (omega (arith, lt))
 turn_set (h ∷ hs) zero f g s up lt is name =
     let here : f.name ≡ h.name = ap (λ (x : Feed). x.name) is in
@@ -75,7 +81,8 @@ turn_set (h ∷ hs) (suc i) f g s up lt is name =
     by false b e k = refl
 
 -- it was this one
-pub turn_was : (fs : List Feed) (i : ℕ) (f : Feed) → Ascends (map name_of fs) → i < length fs → f ≡ get_or fs i f → turn_in fs f.name ≡ f.turn
+pub turn_was : (fs : List Feed) (i : ℕ) (f : Feed) → AreInOrder (map name_of fs) → i < length fs → f ≡ get_or fs i f → turn_in fs f.name ≡ f.turn
+unfolding IsStrictlySortedBy
 turn_was [] i f up lt is = absurd (omega (arith, lt))
 turn_was (h ∷ hs) zero f up lt is =
     let here : f.name ≡ h.name = ap (λ (x : Feed). x.name) is in
@@ -109,6 +116,17 @@ count_room (h ∷ hs) (suc i) f lt is = let rest = count_room hs i f (omega (ari
 pub holds_same : (turns : Turns) (before after : Bytes → Option ℕ) → HoldsTurns turns before → ((s : Bytes) → after s ≡ before s) → HoldsTurns turns after
 holds_same turns before after holds same_turns = record { ascends = holds.ascends; member = λ c. holds.member c ∙ ap (is_at c.moment) (sym (same_turns c.name)) }
 
+no_turns : IsStrictlySortedBy by_turn []
+unfolding IsStrictlySortedBy
+no_turns = tt
+
+pub nothing_in_turn : (fs : List Feed) (turns : Turns) → fs ≡ [] → turns.turns.items ≡ [] → IsOrdered fs turns
+nothing_in_turn fs turns none empty = record {
+  holds = record { ascends = rw empty no_turns; member = λ c. rw (none, empty) refl };
+  count = turns.turns.ok.0 ∙ ap length empty ∙ sym (ap turn_count none);
+  room = rw none (omega arith);
+}
+
 -- the turns stay
 pub ordered_kept : (fs : List Feed) (turns : Turns) (i : ℕ) (f g : Feed) → f ≡ get_or fs i f → g.name ≡ f.name → g.turn ≡ f.turn → IsOrdered fs turns → IsOrdered (set fs i g) turns
 ordered_kept fs turns i f g is name turn o = record {
@@ -118,7 +136,7 @@ ordered_kept fs turns i f g is name turn o = record {
 }
 
 -- a feed's turn is another one
-pub ordered_set : (fs : List Feed) (olds news : Turns) (i : ℕ) (f g : Feed) (after : Option ℕ) → Ascends (map name_of fs) → i < length fs → f ≡ get_or fs i f → g.name ≡ f.name → g.turn ≡ after
+pub ordered_set : (fs : List Feed) (olds news : Turns) (i : ℕ) (f g : Feed) (after : Option ℕ) → AreInOrder (map name_of fs) → i < length fs → f ≡ get_or fs i f → g.name ≡ f.name → g.turn ≡ after
     → HoldsTurns news (λ s. cond (same f.name s) after (turn_in fs s)) → vec_len news.turns + one f.turn ≡ vec_len olds.turns + one after → vec_capacity olds.turns ≤ vec_capacity news.turns
     → IsOrdered fs olds → IsOrdered (set fs i g) news
 ordered_set fs olds news i f g after up lt is name turn holds len capacity o = record {
@@ -160,6 +178,11 @@ ordered_each olds news turns long names same_turns o = record {
         let turn : g.turn ≡ f.turn = same_turns 0 f (omega arith) in
         let rest = counts_each fs gs (omega (arith, long)) (λ k d lt. same_turns (suc k) d (omega (arith, lt))) in
         rw (turn, rest) refl
+
+-- and the turns are the same
+pub ordered_same : (olds news : List Feed) (before after : Turns) → after ≡ before → length news ≡ length olds → ((k : ℕ) (d : Feed) → k < length olds → (get_or news k d).name ≡ (get_or olds k d).name)
+    → ((k : ℕ) (d : Feed) → k < length olds → (get_or news k d).turn ≡ (get_or olds k d).turn) → IsOrdered olds before → IsOrdered news after
+ordered_same olds news before after are long names same_turns o = subst (IsOrdered news) (sym are) (ordered_each olds news before long names same_turns o)
 
 -- ---- steps of one feed
 

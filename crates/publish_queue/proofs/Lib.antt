@@ -2,6 +2,7 @@ pub mod Putting
 pub mod Entries
 pub mod Ascending
 pub mod Order
+pub mod Packing
 pub mod Marking
 pub mod ByName
 pub mod TurnOrder

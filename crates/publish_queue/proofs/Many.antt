@@ -2,16 +2,17 @@
 use Rattle.std.proofs.Common.{◌≡◌, ℕ, zero, suc, ◌+◌, ◌<◌, ◌≤◌, Bool, true, false, ◌||◌, List, [], ◌∷◌, ◌++◌, length, map, get_or, set, take, Some, None, cond, refl, sym, ap, subst, ◌∙◌, arith, ◌⊎◌, inl, inr}
 use mathlib.Core.Bool.{true≢false}
 use Rattle.std.proofs.lemmas.Bool.{cases_lt, cases_eq}
-use Rattle.std.proofs.lemmas.List.{get_or-set_other, get_or-set_same, length-set, get_or_default, get_or-map, length-map, take_more}
+use Rattle.std.proofs.lemmas.List.{get_or-set_other, get_or-set_same, length-set, get_or_default, get_or-map, length-map, map-append, take_more}
 use Rattle.std.proofs.lemmas.List.Folds.{list_any-append}
 use Rattle.std.specs.List.{All, HoldsAt}
 use Rattle.std.specs.Cmp.Lexicographic.{nat_list_eq_equiv}
 use Rattle.news_types.specs.declared.query.Due.{Due}
-use Rattle.news_types.specs.Names.{Bytes, same, is_in}
+use Rattle.news_types.specs.Names.{Bytes, same, is_in, AreInOrder}
 use Rattle.news_types.specs.Due.{release_to}
 use Rattle.news_types.proofs.Members.{same_self, same_is, some_is, none_some}
 use Rattle.publish_queue.specs.declared.feed.Feed.{Feed}
-use Rattle.publish_queue.specs.Order.{Ascends, Differ}
+use Rattle.publish_queue.specs.declared.queue.Feeds.{Feeds}
+use Rattle.publish_queue.specs.Order.{Differ}
 use Rattle.publish_queue.specs.Steps.{SameDelivery, IsAlike, FitsOneMore}
 use Rattle.publish_queue.specs.Many.{Sets, EachGoes, OneGoes, Spread, IsRoomy, IsSame, name_of, names_in, subscriber_in}
 use Rattle.publish_queue.proofs.ByName.{present, apart}
@@ -159,7 +160,7 @@ not_named s ns k d none lt = by (same (get_or ns k d) s) refl
     by true e = absurd (true≢false (sym (present s ns k d lt (same_is (get_or ns k d) s e)) ∙ none))
 
 -- another place has another name
-not_here : (ns : List Bytes) (i k : ℕ) (d : Bytes) → Ascends ns → i < length ns → k < length ns → (k ≡ i → ⊥) → same (get_or ns k d) (get_or ns i d) ≡ false
+not_here : (ns : List Bytes) (i k : ℕ) (d : Bytes) → AreInOrder ns → i < length ns → k < length ns → (k ≡ i → ⊥) → same (get_or ns k d) (get_or ns i d) ≡ false
 not_here ns i k d up at lt other = by (same (get_or ns k d) (get_or ns i d)) refl
   where
     two : get_or ns k d ≡ get_or ns i d → ⊥
@@ -187,7 +188,7 @@ none_of false b e = (refl, e)
 
 -- where the feeds are, by their names
 pub record Found (names : List Bytes) (fs : List Feed) (i : ℕ) (s : Bytes) : Type 0 where
-  pub ascends : Ascends names
+  pub ascends : AreInOrder names
   pub named : map name_of fs ≡ names
   pub within : i < length fs
   pub is : (d : Bytes) → get_or names i d ≡ s
@@ -198,7 +199,7 @@ here_named names fs i s d f = sym (name_at fs i d f.within) ∙ ap (λ ns. get_o
 pub other_named : (names : List Bytes) (fs : List Feed) (i k : ℕ) (s : Bytes) (d : Feed) → Found names fs i s → k < length fs → (k ≡ i → ⊥) → same (name_of (get_or fs k d)) s ≡ false
 other_named names fs i k s d f lt other =
     let long : length (map name_of fs) ≡ length fs = length-map fs name_of in
-    let up : Ascends (map name_of fs) = rw f.named f.ascends in
+    let up : AreInOrder (map name_of fs) = rw f.named f.ascends in
     ap (λ t. same (name_of (get_or fs k d)) t) (sym (here_named names fs i s d f))
     ∙ ap (λ t. same t (name_of (get_or fs i d))) (sym (name_at fs k d lt))
     ∙ ap (λ t. same (get_or (map name_of fs) k (name_of d)) t) (sym (name_at fs i d f.within))
@@ -320,11 +321,15 @@ one_each R S s olds news goes changed kept = record {
 
 -- ---- the loop over the names
 
-pub found_at : (names : List Bytes) (fs : List Feed) (at : ℕ) (s : Bytes) → Ascends names → map name_of fs ≡ names → (at < length names) × ((d : Bytes) → get_or names at d ≡ s) → Found names fs at s
-found_at names fs at s up named found =
-    let long : length (map name_of fs) ≡ length fs = length-map fs name_of in
-    let same : length (map name_of fs) ≡ length names = ap length named in
-    record { ascends = up; named = named; within = omega (arith, long, same, found.0); is = found.1 }
+pub found_at : (fs : Feeds) (at : ℕ) (s : Bytes) → (at < length fs.names.items) × ((d : Bytes) → get_or fs.names.items at d ≡ s) → Found fs.names.items fs.feeds.items at s
+found_at fs at s found =
+    let long : length (map name_of fs.feeds.items) ≡ length fs.feeds.items = length-map fs.feeds.items name_of in
+    let same : length (map name_of fs.feeds.items) ≡ length fs.names.items = ap length fs.named in
+    record { ascends = fs.ascends; named = fs.named; within = omega (arith, long, same, found.0); is = found.1 }
+
+-- the names were the same before
+pub found_as : (old new : Feeds) → new.names.items ≡ old.names.items → (at : ℕ) (s : Bytes) → (at < length new.names.items) × ((d : Bytes) → get_or new.names.items at d ≡ s) → Found old.names.items old.feeds.items at s
+found_as old new names at s found = found_at old at s (subst (λ (ns : List Bytes). (at < length ns) × ((d : Bytes) → get_or ns at d ≡ s)) names found)
 
 -- the name at hand is not among those before it
 pub fresh : (due : List Due) (k : ℕ) (e : Due) → Differ (names_in due) → k < length due → e ≡ get_or due k e → is_in e.subscriber (names_in (take k due)) ≡ false
@@ -340,6 +345,9 @@ fresh due k e differ lt is =
 
 pub one_more : {A : Type 0} (xs : List A) (k : ℕ) (x : A) → k < length xs → x ≡ get_or xs k x → take (k + 1) xs ≡ take k xs ++ x ∷ []
 one_more xs k x lt is = take_more xs k x lt ∙ ap (λ y. take k xs ++ y ∷ []) (sym is)
+
+pub names_so_far : (due : List Due) (k : ℕ) (e : Due) → k < length due → e ≡ get_or due k e → names_in (take (k + 1) due) ≡ names_in (take k due) ++ e.subscriber ∷ []
+names_so_far due k e lt is = ap names_in (one_more due k e lt is) ∙ map-append subscriber_in (take k due) (e ∷ [])
 
 -- it is due
 pub is_due_now : (due : List Due) (k : ℕ) (e : Due) → k < length due → e ≡ get_or due k e → is_in e.subscriber (names_in due) ≡ true

@@ -1,9 +1,8 @@
 -- Releases are withdrawn within spans of moments.
-use Rattle.std.proofs.Common.{◌≡◌, ℕ, ◌+◌, ◌<◌, ◌≤◌, Bool, true, false, cond, not, ◌&&◌, ◌||◌, ◌==◌, List, [], ◌∷◌, ◌++◌, length, map, get_or, Option, Some, None, refl, sym, ap, ◌∙◌, inl, inr, ◌⊎◌, arith}
+use Rattle.std.proofs.Common.{◌≡◌, ℕ, ◌<◌, Bool, true, false, cond, not, ◌&&◌, ◌||◌, ◌==◌, List, [], ◌∷◌, ◌++◌, length, map, get_or, Option, Some, None, refl, sym, ap, ◌∙◌, inl, inr, ◌⊎◌, arith}
 use Rattle.std.specs.Prelude.{nat_le, nat_lt}
-use Rattle.std.specs.List.{All, filter, list_any}
-use mathlib.Core.Bool.{true≢false}
-use Rattle.std.proofs.lemmas.Bool.{cases_lt, cases_eq}
+use Rattle.std.specs.List.{filter}
+use Rattle.std.proofs.lemmas.Bool.{cases_eq}
 use Rattle.std.proofs.lemmas.Bool.Decides.{nat_tests, Decides-eqb}
 use Rattle.std.proofs.lemmas.List.Folds.{list_any-append}
 use Rattle.std.proofs.lemmas.List.{length-map}
@@ -17,7 +16,7 @@ use Rattle.publish_queue.specs.declared.release.Release.{Release}
 use Rattle.publish_queue.specs.declared.release.Span.{Span}
 use Rattle.publish_queue.specs.Rows.{live, is_among, has_number, is_between, without}
 use Rattle.publish_queue.specs.Steps.{IsWithdrawn}
-use Rattle.publish_queue.specs.Many.{Sets, EachGoes, OneGoes, IsWithdrawnBy, is_within, is_spanned, name_of}
+use Rattle.publish_queue.specs.Many.{Sets, EachGoes, IsWithdrawnBy, is_within, is_spanned, name_of}
 use Rattle.publish_queue.specs.Keeps.{IsRow, own, own_waiting, release_of}
 use Rattle.publish_queue.specs.Withdrawn.{HasRelease, HasReleaseTo, AreWithin}
 use Rattle.publish_queue.proofs.Many.{Found, here_named, other_named, name_at, not_named}

@@ -15,11 +15,11 @@ use Rattle.news_types.proofs.Feeds.{filter_place, rises_due_to}
 use Rattle.news_types.proofs.Dues.{release_from, release_given}
 use Rattle.publish_queue.specs.declared.feed.Feed.{Feed}
 use Rattle.publish_queue.specs.declared.release.Release.{Release}
-use Rattle.publish_queue.specs.Rows.{live, without, is_among, has_number}
+use Rattle.publish_queue.specs.Rows.{without, is_among, has_number}
 use Rattle.publish_queue.specs.Steps.{FitsOneMore, IsWithdrawn}
 use Rattle.publish_queue.specs.Many.{EachGoes, OneGoes}
 use Rattle.publish_queue.proofs.Many.{one_each}
-use Rattle.publish_queue.specs.Keeps.{IsRow, IsUntouched, IsFair, own, own_waiting, release_of}
+use Rattle.publish_queue.specs.Keeps.{Facts, IsRow, IsUntouched, IsFair, own, own_waiting, release_of}
 use Rattle.publish_queue.specs.Withdrawn.{without_number, Waits, due_without, withdrawn_for, WaitsFor, left_of, AreOfItem}
 use Rattle.publish_queue.proofs.OneFeed.{is_row_named, rises_own}
 
@@ -125,9 +125,9 @@ is_row_withdrawn m numbers ps qs f g leaves is step =
     (record { numbers = step.row.numbers ∙ is.row.numbers; releases = step.row.releases ∙ is.row.releases })
     (step.waiting ∙ ap (without (has_number numbers)) is.waiting ∙ releases_left numbers (waiting_of ps m f.name))
 
-pub untouched_left : (m : ℕ) (numbers : List ℕ) (ps qs : List Pub) (acked tries tried : Bytes → ℕ) (s : Bytes) → Leaves m numbers s ps qs → IsUntouched ps acked tries tried s → IsUntouched qs acked tries tried s
-untouched_left m numbers ps qs acked tries tried s leaves is = record {
-  due = leaves ∙ ap (filter (stays m numbers)) is.due;
+pub untouched_left : (known : Facts) (numbers : List ℕ) (qs : List Pub) (s : Bytes) → Leaves known.moment numbers s known.publications qs → IsUntouched known s → IsUntouched (record known { publications = qs }) s
+untouched_left known numbers qs s leaves is = record {
+  due = leaves ∙ ap (filter (stays known.moment numbers)) is.due;
   receipt = is.receipt;
   attempts = is.attempts;
   last = is.last;
@@ -223,12 +223,12 @@ for_others n s t (p ∷ ps) e = ap (put p (release_to t (cond (p.number == n) (d
     by true = others_due s t p.due e
     by false = refl
 
-pub untouched_for : (m n : ℕ) (s t : Bytes) (ps : List Pub) (acked tries tried : Bytes → ℕ) → WaitsFor s n m ps → IsUntouched ps acked tries tried t → IsUntouched (withdrawn_for s n ps) acked tries tried t
-untouched_for m n s t ps acked tries tried late is = by (same s t) refl
+pub untouched_for : (known : Facts) (n : ℕ) (s t : Bytes) → WaitsFor s n known.moment known.publications → IsUntouched known t → IsUntouched (record known { publications = withdrawn_for s n known.publications }) t
+untouched_for known n s t late is = by (same s t) refl
   where
-    by : (b : Bool) → same s t ≡ b → IsUntouched (withdrawn_for s n ps) acked tries tried t
-    by true e = untouched_left m (n ∷ []) ps (withdrawn_for s n ps) acked tries tried t (for_leaves m n s t ps e late) is
-    by false e = record { due = for_others n s t ps e ∙ is.due; receipt = is.receipt; attempts = is.attempts; last = is.last }
+    by : (b : Bool) → same s t ≡ b → IsUntouched (record known { publications = withdrawn_for s n known.publications }) t
+    by true e = untouched_left known (n ∷ []) (withdrawn_for s n known.publications) t (for_leaves known.moment n s t known.publications e late) is
+    by false e = record { due = for_others n s t known.publications e ∙ is.due; receipt = is.receipt; attempts = is.attempts; last = is.last }
 
 -- it has its name, its turn and its room
 pub record HasStayed (f g : Feed) : Type 0 where

@@ -3,40 +3,46 @@ use Rattle.std.specs.Prelude.{ℕ, ◌+◌, Bool, not, ◌&&◌, nat_le, List, [
 use Rattle.news_types.specs.declared.query.Ready.{Ready}
 use Rattle.news_types.specs.declared.query.Ready.TheVariants.{Now, Later}
 use Rattle.news_types.specs.Names.{Bytes, is_in}
-use Rattle.news_types.specs.Due.{Pub}
 use Rattle.news_types.specs.Feeds.{feed_of, waiting_of}
 use Rattle.news_types.specs.Delivery.{Candidate, candidate, earliest, is_by, pauses, first_release, or_else}
 use Rattle.publish_queue.specs.declared.turns.Turn.{Turn}
-use Rattle.publish_queue.specs.Keeps.{turn_of}
+use Rattle.publish_queue.specs.Keeps.{Facts, turn_of}
 use Rattle.publish_queue.specs.Coming.{sooner}
 
-abbrev pub ready_candidate_of : List Bytes → List Pub → ℕ → (Bytes → ℕ) → (Bytes → ℕ) → (Bytes → ℕ) → ℕ → Bytes → Option Candidate
-ready_candidate_of names ps m acked tries tried at s =
-    if is_in s names && is_by at (turn_of ps m acked tries tried s)
-    then option_map (candidate s) (turn_of ps m acked tries tried s)
+abbrev pub ready_candidate_of : Facts → ℕ → Bytes → Option Candidate
+ready_candidate_of known at s =
+    if is_in s known.names && is_by at (turn_of known s)
+    then option_map (candidate s) (turn_of known s)
     else None
 
-abbrev pub is_paused_of : List Pub → ℕ → (Bytes → ℕ) → (Bytes → ℕ) → Bytes → Bool
-is_paused_of ps m acked tries s = pauses (slice_get (feed_of ps m s) (acked s)) (tries s)
+abbrev pub is_paused_of : Facts → Bytes → Bool
+is_paused_of known s = pauses (slice_get (feed_of known.publications known.moment s) (known.acked s)) (known.tries s)
 
-abbrev pub later_candidate_of : List Bytes → List Pub → ℕ → (Bytes → ℕ) → (Bytes → ℕ) → (Bytes → ℕ) → Bytes → Option Candidate
-later_candidate_of names ps m acked tries tried s =
-    if is_in s names && not (is_paused_of ps m acked tries s)
-    then option_map (candidate s) (or_else (turn_of ps m acked tries tried s) (first_release (waiting_of ps m s)))
+abbrev pub later_candidate_of : Facts → Bytes → Option Candidate
+later_candidate_of known s =
+    if is_in s known.names && not (is_paused_of known s)
+    then option_map (candidate s) (or_else (turn_of known s) (first_release (waiting_of known.publications known.moment s)))
     else None
 
 abbrev pub moment_of_candidate : Candidate → ℕ
 moment_of_candidate found = found.at
 
-abbrev pub chosen_of : List Bytes → List Pub → ℕ → (Bytes → ℕ) → (Bytes → ℕ) → (Bytes → ℕ) → Option Candidate → List Bytes → Ready
-chosen_of names ps m acked tries tried (Some found) asked = Now found.name (acked found.name + 1)
-chosen_of names ps m acked tries tried None asked = Later (option_map moment_of_candidate (earliest (filter_map (later_candidate_of names ps m acked tries tried) asked)))
+-- it goes on with the entry behind those that were acknowledged
+abbrev pub now_of : Facts → Candidate → Ready
+now_of known found = Now found.name (known.acked found.name + 1)
+
+-- the ready one among those that are asked for with the least moment, then the least name, if there is one
+abbrev pub ready_of : Facts → List Bytes → ℕ → Option Ready
+ready_of known asked at = option_map (now_of known) (earliest (filter_map (ready_candidate_of known at) asked))
+
+abbrev pub chosen_of : Facts → Option Candidate → List Bytes → Ready
+chosen_of known (Some found) asked = now_of known found
+chosen_of known None asked = Later (option_map moment_of_candidate (earliest (filter_map (later_candidate_of known) asked)))
 
 -- the ready one among those that are asked for with the least moment, then the least name; or the least moment at which
 -- one may be ready
-abbrev pub choice_of : List Bytes → List Pub → ℕ → (Bytes → ℕ) → (Bytes → ℕ) → (Bytes → ℕ) → List Bytes → ℕ → Ready
-choice_of names ps m acked tries tried asked at =
-    chosen_of names ps m acked tries tried (earliest (filter_map (ready_candidate_of names ps m acked tries tried at) asked)) asked
+abbrev pub choice_of : Facts → List Bytes → ℕ → Ready
+choice_of known asked at = chosen_of known (earliest (filter_map (ready_candidate_of known at) asked)) asked
 
 -- ---- in turn
 
@@ -53,5 +59,5 @@ abbrev pub soonest : (Bytes → Option ℕ) → List Bytes → Option ℕ
 soonest moment [] = None
 soonest moment (s ∷ ss) = sooner (moment s) (soonest moment ss)
 
-abbrev pub later_moment_of : List Bytes → List Pub → ℕ → (Bytes → ℕ) → (Bytes → ℕ) → (Bytes → ℕ) → Bytes → Option ℕ
-later_moment_of names ps m acked tries tried s = option_map moment_of_candidate (later_candidate_of names ps m acked tries tried s)
+abbrev pub later_moment_of : Facts → Bytes → Option ℕ
+later_moment_of known s = option_map moment_of_candidate (later_candidate_of known s)

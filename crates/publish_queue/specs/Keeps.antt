@@ -1,7 +1,7 @@
 -- Which subscribers, publications, moment and delivery a queue keeps.
 use Rattle.std.specs.Prelude.{◌≡◌, ℕ, ◌<◌, ◌≤◌, false, List, [], ◌∷◌, map, slice_get, vec_len, vec_capacity, if◌then◌else◌, Option}
 use Rattle.std.specs.VecDeque.{deque_len, deque_capacity}
-use Rattle.std.specs.List.{All, filter, list_any}
+use Rattle.std.specs.List.{All, filter, insert, list_any}
 use Rattle.news_types.specs.declared.query.Due.{Due}
 use Rattle.news_types.specs.Names.{Bytes, same, is_in}
 use Rattle.news_types.specs.History.{History, moment}
@@ -13,11 +13,14 @@ use Rattle.news_types.specs.Feeds.{Dispatch, inserted, dispatch, is_waiting, due
 use Rattle.news_types.specs.Delivery.{ready_from, acked, tries, tried}
 use Rattle.news_types.specs.Legal.{is_coming}
 use Rattle.publish_queue.specs.declared.release.Release.{Release}
+use Rattle.publish_queue.specs.declared.feed.Delivery.{Delivery}
 use Rattle.publish_queue.specs.declared.feed.Feed.{Feed}
+use Rattle.publish_queue.specs.declared.queue.Feeds.{Feeds}
 use Rattle.publish_queue.specs.declared.queue.Queue.{Queue}
 use Rattle.publish_queue.specs.Rows.{live}
-use Rattle.publish_queue.specs.Steps.{HasEntries}
-use Rattle.publish_queue.specs.Many.{IsRoomy, IsOrdered}
+use Rattle.publish_queue.specs.Steps.{HasEntries, IsEmptyFeed}
+use Rattle.publish_queue.specs.Places.{FitsPlaces}
+use Rattle.publish_queue.specs.Many.{IsRoomy, IsOrdered, names_in}
 
 -- ---- publications
 
@@ -55,61 +58,115 @@ pub record IsRow (ps : List Pub) (m : ℕ) (f : Feed) : Type 0 where
   pub row : HasEntries f.row (map number_of (feed_of ps m f.name)) (map moment_of (feed_of ps m f.name))
   pub waiting : live f.waiting.releases.items ≡ map release_of (waiting_of ps m f.name)
 
--- so much was acknowledged, the tries since, and the moment of the last one
-pub record Stands (acked tries tried : Bytes → ℕ) (f : Feed) : Type 0 where
-  pub receipt : f.delivery.acked ≡ acked f.name
-  pub attempts : f.delivery.tries ≡ tries f.name
-  pub last : f.delivery.tried ≡ tried f.name
+-- what is known of some feeds at a moment
+pub record Facts : Type 0 where
+  -- the subscribers
+  pub names : List Bytes
+  -- newest first, each with those for whom it stands
+  pub publications : List Pub
+  pub moment : ℕ
+  -- how much of each subscriber's feed was acknowledged, the tries since, and the moment of the last one
+  pub acked : Bytes → ℕ
+  pub tries : Bytes → ℕ
+  pub tried : Bytes → ℕ
+
+-- the facts of a list of entries
+abbrev pub facts : History → Facts
+facts h = record {
+  names = subscribers h;
+  publications = standing h;
+  moment = moment h;
+  acked = acked h;
+  tries = tries h;
+  tried = tried h;
+}
+
+-- nothing is there yet
+abbrev pub nothing : Facts
+nothing = record {
+  names = [];
+  publications = [];
+  moment = 0;
+  acked = λ s. 0;
+  tries = λ s. 0;
+  tried = λ s. 0;
+}
+
+-- the delivery stands so
+pub record Stands (known : Facts) (f : Feed) : Type 0 where
+  pub receipt : f.delivery.acked ≡ known.acked f.name
+  pub attempts : f.delivery.tries ≡ known.tries f.name
+  pub last : f.delivery.tried ≡ known.tried f.name
 
 -- when the feed of a subscriber may be pushed
-abbrev pub turn_of : List Pub → ℕ → (Bytes → ℕ) → (Bytes → ℕ) → (Bytes → ℕ) → Bytes → Option ℕ
-turn_of ps m acked tries tried s = ready_from (slice_get (feed_of ps m s) (acked s)) (tries s) (tried s)
+abbrev pub turn_of : Facts → Bytes → Option ℕ
+turn_of known s = ready_from (slice_get (feed_of known.publications known.moment s) (known.acked s)) (known.tries s) (known.tried s)
 
-pub record IsFeed (ps : List Pub) (m : ℕ) (acked tries tried : Bytes → ℕ) (f : Feed) : Type 0 where
-  pub rows : IsRow ps m f
-  pub stands : Stands acked tries tried f
-  pub turn : f.turn ≡ turn_of ps m acked tries tried f.name
+pub record IsFeed (known : Facts) (f : Feed) : Type 0 where
+  pub rows : IsRow known.publications known.moment f
+  pub stands : Stands known f
+  pub turn : f.turn ≡ turn_of known f.name
 
--- the fact of this subscriber is that number now, and those of the others stand
-abbrev pub IsSetTo : Bytes → ℕ → (Bytes → ℕ) → (Bytes → ℕ) → Type 0
-IsSetTo s n before after = (t : Bytes) → after t ≡ (if same s t then n else before t)
+-- the facts where the delivery to one subscriber stands so
+abbrev pub delivered : Delivery → Bytes → Facts → Facts
+delivered delivery to f = record f {
+  acked = λ s. if same to s then delivery.acked else f.acked s;
+  tries = λ s. if same to s then delivery.tries else f.tries s;
+  tried = λ s. if same to s then delivery.tried else f.tried s;
+}
 
 -- nothing was due or sent to it
-pub record IsUntouched (ps : List Pub) (acked tries tried : Bytes → ℕ) (s : Bytes) : Type 0 where
-  pub due : due_to s ps ≡ []
-  pub receipt : acked s ≡ 0
-  pub attempts : tries s ≡ 0
-  pub last : tried s ≡ 0
+pub record IsUntouched (known : Facts) (s : Bytes) : Type 0 where
+  pub due : due_to s known.publications ≡ []
+  pub receipt : known.acked s ≡ 0
+  pub attempts : known.tries s ≡ 0
+  pub last : known.tried s ≡ 0
 
 -- the first moment behind m at which one of the publications is released, or is to somebody, if there is one
 abbrev pub IsNext : List Pub → ℕ → Option ℕ → Type 0
 IsNext ps m next = (n : ℕ) → is_by n next ≡ list_any (is_coming m n) ps
 
--- the queue keeps the feeds of these subscribers, made by these publications (newest first, each with those for whom it
--- stands), at the moment, and how much of each was acknowledged, the tries since, and the moment of the last try
-pub record Keeps (q : Queue) (names : List Bytes) (ps : List Pub) (m : ℕ) (acked tries tried : Bytes → ℕ) : Type 0 where
-  pub at : q.moment ≡ m
-  pub subscribed : (s : Bytes) → is_in s q.names.items ≡ is_in s names
-  pub feeds : All (IsFeed ps m acked tries tried) q.feeds.items
-  pub others : (s : Bytes) → is_in s names ≡ false → IsUntouched ps acked tries tried s
-  pub waits : live q.waiting.releases.items ≡ map release_of (own_waiting ps m)
-  pub next : IsNext ps m q.next
-  pub fair : Each IsFair ps
-  pub ordered : IsOrdered q.feeds.items q.turns
+-- the turns are those of the feeds
+abbrev pub AreInTurn : Feeds → Type 0
+AreInTurn fs = IsOrdered fs.feeds.items fs.turns
+
+-- one more feed is among them, with nothing in it
+pub record IsWithFeed (name : Bytes) (old new : Feeds) : Type 0 where
+  pub at : ℕ
+  pub feed : Feed
+  pub empty : IsEmptyFeed name feed
+  pub names : new.names.items ≡ insert old.names.items at name
+  pub feeds : new.feeds.items ≡ insert old.feeds.items at feed
+  pub ordered : AreInTurn old → AreInTurn new
+
+-- the queue keeps the feeds of which this is known, and what its publications leave to wait for
+pub record Keeps (q : Queue) (f : Facts) : Type 0 where
+  pub at : q.moment ≡ f.moment
+  pub subscribed : (s : Bytes) → is_in s q.feeds.names.items ≡ is_in s f.names
+  pub feeds : All (IsFeed f) q.feeds.feeds.items
+  pub others : (s : Bytes) → is_in s f.names ≡ false → IsUntouched f s
+  pub waits : live q.waiting.releases.items ≡ map release_of (own_waiting f.publications f.moment)
+  pub next : IsNext f.publications f.moment q.next
+  pub fair : Each IsFair f.publications
+  pub ordered : AreInTurn q.feeds
 
 -- the queue keeps the facts of this list of entries
 abbrev pub KeepsFactsOf : Queue → History → Type 0
-KeepsFactsOf q h = Keeps q (subscribers h) (standing h) (moment h) (acked h) (tries h) (tried h)
+KeepsFactsOf q h = Keeps q (facts h)
 
 -- ---- memory
 
--- one more publication that is due to these fits
-pub record HasRoom (q : Queue) (due : List Bytes) : Type 0 where
-  pub roomy : All (IsRoomy due) q.feeds.items
+-- one more publication of that number, with its own release and those to whom it is due, fits
+pub record HasRoom (q : Queue) (number release : ℕ) (due : List Due) : Type 0 where
+  pub fits : FitsPlaces number release due
+  pub roomy : All (IsRoomy (names_in due)) q.feeds.feeds.items
   pub waiting : deque_len q.waiting.releases < deque_capacity q.waiting.releases
 
 -- one more subscriber fits
-pub record HasSpare (q : Queue) : Type 0 where
-  pub names : vec_len q.names < vec_capacity q.names
-  pub feeds : vec_len q.feeds < vec_capacity q.feeds
-  pub turns : vec_len q.feeds < vec_capacity q.turns.turns
+pub record HasPlace (fs : Feeds) : Type 0 where
+  pub names : vec_len fs.names < vec_capacity fs.names
+  pub feeds : vec_len fs.feeds < vec_capacity fs.feeds
+  pub turns : vec_len fs.feeds < vec_capacity fs.turns.turns
+
+abbrev pub HasSpare : Queue → Type 0
+HasSpare q = HasPlace q.feeds

@@ -12,6 +12,10 @@ turn_by (Some release) n last = if n == 0 then Some release else (if nat_lt n 10
 abbrev pub row_turn : Feed → Option ℕ
 row_turn f = turn_by (slice_get f.row.releases.items f.delivery.acked) f.delivery.tries f.delivery.tried
 
+-- the entry that it goes on with, if one is not acknowledged
+abbrev pub next_by : Feed → Option ℕ
+next_by f = if nat_lt f.delivery.acked (length f.row.numbers.items) then Some (f.delivery.acked + 1) else None
+
 -- when a feed may be ready, by its turn and by what waits for it
 abbrev pub later_by : Feed → Option ℕ
 later_by f =

@@ -1,33 +1,50 @@
 -- Releases in order, and what goes from there into a row.
-use Rattle.std.specs.Prelude.{◌≡◌, ℕ, ◌≤◌, ◌<◌, Bool, true, false, List, [], ◌∷◌, ◌++◌, length, slice_index_or, nat_le, nat_lt, not, ◌&&◌, ◌==◌, if◌then◌else◌, Option, Some, None}
+use Rattle.std.specs.Prelude.{◌≡◌, ℕ, ◌-◌, ◌/◌, ◌%◌, ◌≤◌, ◌<◌, Bool, false, List, [], ◌∷◌, ◌++◌, length, slice_index_or, nat_le, nat_lt, not, ◌&&◌, ◌==◌, if◌then◌else◌, Option, Some, None}
 use native.Mathlib.Bridge.{le_prop}
 use Rattle.std.specs.List.{filter, list_any}
 use Rattle.publish_queue.specs.declared.release.Release.{Release}
 use Rattle.publish_queue.specs.declared.release.Awaited.{Awaited}
 
+-- ---- a place of one that waits
+
+-- a place is one word: the moment, above 26 bits of number
+unfoldable pub awaited_moment : Awaited → ℕ
+awaited_moment w = w.bits / 67108864
+
+unfoldable pub awaited_number : Awaited → ℕ
+awaited_number w = w.bits % 67108864
+
+-- a number of 0 says that it was withdrawn
+unfoldable pub withdrawn : Awaited → Bool
+withdrawn w = (w.bits % 67108864) == 0
+
+-- withdrawn, at the same moment
+unfoldable pub emptied : Awaited → Awaited
+emptied w = record { bits = w.bits - w.bits % 67108864 }
+
 -- ---- those that were not withdrawn
 
 abbrev pub release_in : Awaited → Release
-release_in w = record { moment = w.moment; number = w.number }
+release_in w = record { moment = awaited_moment w; number = awaited_number w }
 
 -- the releases that wait
 abbrev pub live : List Awaited → List Release
 live [] = []
-live (w ∷ ws) = if w.withdrawn then live ws else release_in w ∷ live ws
+live (w ∷ ws) = if withdrawn w then live ws else release_in w ∷ live ws
 
 abbrev pub begins_withdrawn : List Awaited → Bool
 begins_withdrawn [] = false
-begins_withdrawn (w ∷ ws) = w.withdrawn
+begins_withdrawn (w ∷ ws) = withdrawn w
 
 -- none of them is earlier
 abbrev pub NoneBefore : ℕ → List Awaited → Type 0
 NoneBefore m [] = Unit {0}
-NoneBefore m (w ∷ ws) = (m ≤ w.moment) × NoneBefore m ws
+NoneBefore m (w ∷ ws) = (m ≤ awaited_moment w) × NoneBefore m ws
 
 -- the moments never fall
 abbrev pub Rising : List Awaited → Type 0
 Rising [] = Unit {0}
-Rising (w ∷ ws) = NoneBefore w.moment ws × Rising ws
+Rising (w ∷ ws) = NoneBefore (awaited_moment w) ws × Rising ws
 
 -- a list is in order in one way
 none_before_prop : (m : ℕ) (ws : List Awaited) → IsProp (NoneBefore m ws)
@@ -36,7 +53,7 @@ none_before_prop m (w ∷ ws) a b = λ i. (le_prop a.0 b.0 i, none_before_prop m
 
 pub rising_prop : (ws : List Awaited) → IsProp (Rising ws)
 rising_prop [] a b = λ i. tt
-rising_prop (w ∷ ws) a b = λ i. (none_before_prop w.moment ws a.0 b.0 i, rising_prop ws a.1 b.1 i)
+rising_prop (w ∷ ws) a b = λ i. (none_before_prop (awaited_moment w) ws a.0 b.0 i, rising_prop ws a.1 b.1 i)
 
 -- ---- releases
 
@@ -79,7 +96,7 @@ without gone rs = filter (λ (r : Release). not (gone r)) rs
 
 -- withdrawn, if it has one of these numbers
 abbrev pub marked : List ℕ → Awaited → Awaited
-marked numbers w = record { moment = w.moment; number = w.number; withdrawn = if is_among w.number numbers then true else w.withdrawn }
+marked numbers w = if is_among (awaited_number w) numbers then emptied w else w
 
 -- those from one place up to another are marked, and the others are as they were
 pub record IsMarked (numbers : List ℕ) (from to : ℕ) (olds news : List Awaited) : Type 0 where

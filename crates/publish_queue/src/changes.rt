@@ -2,7 +2,8 @@
 ghost use Rattle.std.specs.Prelude.{◌≡◌, OnOk};
 ghost use Rattle.std.specs.Bool.{MatchBool};
 ghost use Rattle.publish_queue.specs.Rows.{live, is_between, FirstIsLater};
-ghost use Rattle.publish_queue.specs.Ready.{row_turn, later_by};
+ghost use Rattle.publish_queue.specs.Places.{FitsPlace};
+ghost use Rattle.publish_queue.specs.Ready.{row_turn, next_by, later_by};
 ghost use Rattle.publish_queue.specs.Steps.{IsEmptyFeed, IsAlike, IsAdvanced, IsAdded, IsWithdrawn, IsDelivered, FitsOneMore};
 
 use crate::feed::{Delivery, Feed};
@@ -58,7 +59,8 @@ impl Feed {
 
     /// Puts a publication into the row where its release has come, and else among those that wait.
     pub fn add(&mut self, release: Release, moment: Moment)
-        requires { FitsOneMore self.old }
+        requires room { FitsOneMore self.old }
+        requires fits { FitsPlace release }
         ensures name { self.new.name ≡ self.old.name }
         ensures added { IsAdded release moment self.old self.new }
         ensures turn { self.new.turn ≡ self.old.turn }
@@ -101,6 +103,17 @@ impl Feed {
         match self.waiting.first() {
             Some(first) => first.moment <= moment,
             None => false,
+        }
+    }
+
+    /// The entry that it goes on with, counted from 1. Nothing where all is acknowledged.
+    pub fn next_entry(&self) -> Option<u32>
+        ensures { result ≡ next_by self.now }
+    {
+        if self.row.len() > self.delivery.acked as usize {
+            Some(self.delivery.acked + 1)
+        } else {
+            None
         }
     }
 

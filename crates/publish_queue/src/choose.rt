@@ -1,15 +1,12 @@
 //! Which feed is pushed next.
-ghost use Rattle.std.specs.Prelude.{◌≡◌, ℕ, ◌+◌, true, Some, List, Option, option_map};
-ghost use Rattle.news_types.specs.Names.{Bytes, is_in};
-ghost use Rattle.news_types.specs.Due.{Pub};
+ghost use Rattle.std.specs.Prelude.{◌≡◌};
 ghost use Rattle.news_types.specs.History.{History};
 ghost use Rattle.news_types.specs.Delivery.{choice};
-ghost use Rattle.publish_queue.specs.Keeps.{Keeps, KeepsFactsOf, turn_of};
-ghost use Rattle.publish_queue.specs.Choice.{first_among, soonest, later_moment_of};
+ghost use Rattle.publish_queue.specs.Keeps.{Facts, Keeps, KeepsFactsOf};
+ghost use Rattle.publish_queue.specs.Choice.{first_among, soonest, later_moment_of, ready_of};
 
 use crate::coming::sooner_of;
 use crate::queue::Queue;
-use crate::search::find;
 use crate::turns::Turn;
 use news_types::{Moment, Name, Ready};
 
@@ -20,33 +17,30 @@ impl Queue {
     pub fn next_ready(&self, names: &[Name], moment: Moment) -> Ready
         ensures { (h : History) → KeepsFactsOf self.now h → result ≡ choice h names.now moment }
     {
-        match first_turn(&self.turns.turns, names, moment) {
-            Some(turn) => Ready::Now {
-                subscriber: turn.name,
-                k: self.next_entry(&turn.name),
-            },
+        match self.first_ready(names, moment) {
+            Some(ready) => ready,
             None => Ready::Later {
                 next: self.next_moment(names),
             },
         }
     }
 
-    // The entry that a feed that is not acknowledged whole goes on with.
-    fn next_entry(&self, name: &Name) -> u32
-        ensures { (subscribers : List Bytes) (ps : List Pub) (m : ℕ) (acked tries tried : Bytes → ℕ) →
-            Keeps self.now subscribers ps m acked tries tried → is_in name.now subscribers ≡ true →
-            (at : ℕ) → turn_of ps m acked tries tried name.now ≡ Some at → result ≡ acked name.now + 1 }
+    // The first feed in turn, with the entry that it goes on with.
+    fn first_ready(&self, names: &[Name], moment: Moment) -> Option<Ready>
+        ensures { (f : Facts) → Keeps self.now f → result ≡ ready_of f names.now moment }
     {
-        match find(&self.names, name) {
-            Some(at) => self.feeds[at].delivery.acked.saturating_add(1),
-            None => 1,
-        }
+        let turn = first_turn(&self.feeds.turns.turns, names, moment)?;
+        let at = self.feeds.find(&turn.name)?;
+        let k = self.feeds.feeds[at].next_entry()?;
+        Some(Ready::Now {
+            subscriber: turn.name,
+            k,
+        })
     }
 
     // The least moment at which one of these may be ready.
     fn next_moment(&self, names: &[Name]) -> Option<Moment>
-        ensures { (subscribers : List Bytes) (ps : List Pub) (m : ℕ) (acked tries tried : Bytes → ℕ) →
-            Keeps self.now subscribers ps m acked tries tried → result ≡ soonest (later_moment_of subscribers ps m acked tries tried) names.now }
+        ensures { (f : Facts) → Keeps self.now f → result ≡ soonest (later_moment_of f) names.now }
     {
         let mut next = None;
         for name in names {
@@ -57,11 +51,10 @@ impl Queue {
 
     // The moment at which a feed may be ready.
     fn later_moment(&self, name: &Name) -> Option<Moment>
-        ensures { (subscribers : List Bytes) (ps : List Pub) (m : ℕ) (acked tries tried : Bytes → ℕ) →
-            Keeps self.now subscribers ps m acked tries tried → result ≡ later_moment_of subscribers ps m acked tries tried name.now }
+        ensures { (f : Facts) → Keeps self.now f → result ≡ later_moment_of f name.now }
     {
-        let feed = &self.feeds[find(&self.names, name)?];
-        feed.later_moment()
+        let at = self.feeds.find(name)?;
+        self.feeds.feeds[at].later_moment()
     }
 }
 

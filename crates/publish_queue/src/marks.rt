@@ -21,13 +21,8 @@ pub fn mark_between(releases: &mut VecDeque<Awaited>, numbers: &[u32], from: usi
     ensures capacity { deque_capacity releases.new ≡ deque_capacity releases.old }
 {
     for at in from..to {
-        let awaited = releases[at];
-        if is_among(awaited.number, numbers) {
-            releases[at] = Awaited {
-                moment: awaited.moment,
-                number: awaited.number,
-                withdrawn: true,
-            };
+        if is_among(releases[at].number(), numbers) {
+            releases[at].withdraw();
         }
     }
 }
@@ -37,7 +32,7 @@ fn begins_withdrawn(releases: &VecDeque<Awaited>) -> bool
     ensures { result ≡ begins_withdrawn releases.now.items }
 {
     match releases.front() {
-        Some(first) => first.withdrawn,
+        Some(first) => first.is_withdrawn(),
         None => false,
     }
 }

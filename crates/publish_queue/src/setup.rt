@@ -1,69 +1,60 @@
 //! Subscribers are added, and memory is taken.
-ghost use Rattle.std.specs.Prelude.{◌≡◌, ℕ, false, List, [], ◌∷◌, IfOk, OnOk, refl};
+ghost use Rattle.std.specs.Prelude.{◌≡◌, false, [], ◌∷◌, IfOk, OnOk};
 ghost use Rattle.news_types.specs.Names.{Bytes, is_in};
-ghost use Rattle.news_types.specs.Due.{Pub};
-ghost use Rattle.publish_queue.specs.Keeps.{Keeps, HasRoom, HasSpare};
+ghost use Rattle.publish_queue.specs.Keeps.{Facts, Keeps, HasRoom, HasSpare, nothing};
 
-use crate::feed::Feed;
-use crate::feeds::reserve_all;
-use crate::queue::Queue;
-use crate::search::place_of;
-use crate::turns::Turns;
+use crate::queue::{Feeds, Queue};
+use crate::release::fit_places;
 use crate::waiting::WaitingList;
-use news_types::{Memory, Name};
+use news_types::{Due, Memory, Moment, Name};
 use std::alloc::Global;
 
 impl Queue {
     /// Without a subscriber or a publication.
     pub fn new(alloc: Global) -> Result<Queue, Memory>
-        ensures { IfOk result (λ queue. Keeps queue [] [] 0 (λ s. 0) (λ s. 0) (λ s. 0)) }
+        ensures { IfOk result (λ queue. Keeps queue nothing) }
     {
         Ok(Queue {
             alloc,
             moment: 0,
-            names: Vec::new(alloc),
-            feeds: Vec::new(alloc),
+            feeds: Feeds::new(alloc),
             waiting: WaitingList::new(alloc),
             next: None,
-            turns: Turns::new(alloc),
         })
     }
 
     /// Takes the memory for one more subscriber. The feeds stay as they are, also without it.
     pub fn reserve_subscriber(&mut self) -> Result<(), Memory>
-        ensures keeps { (names : List Bytes) (ps : List Pub) (m : ℕ) (acked tries tried : Bytes → ℕ) →
-            Keeps self.old names ps m acked tries tried → Keeps self.new names ps m acked tries tried }
+        ensures keeps { (f : Facts) → Keeps self.old f → Keeps self.new f }
         ensures ok { OnOk result (HasSpare self.new) }
     {
-        self.names.reserve(1)?;
-        self.feeds.reserve(1)?;
-        self.turns.reserve(self.feeds.len() + 1)?;
-        Ok(())
+        self.feeds.reserve_subscriber()
     }
 
-    /// Takes the memory for one more publication that is due to these subscribers. The feeds stay
-    /// as they are, also without it.
-    pub fn reserve_for(&mut self, due: &[Name]) -> Result<(), Memory>
-        ensures keeps { (names : List Bytes) (ps : List Pub) (m : ℕ) (acked tries tried : Bytes → ℕ) →
-            Keeps self.old names ps m acked tries tried → Keeps self.new names ps m acked tries tried }
-        ensures ok { OnOk result (HasRoom self.new due.now) }
+    /// Takes the memory for one more publication of that number, with its own release and that for
+    /// each of those to whom it is due. The feeds stay as they are, also without it.
+    ///
+    /// A number of 0 or above 67,108,863, or a release from second 274,877,906,944 on, has no place
+    /// to wait in, and the answer is `Memory` too. No newsroom comes there: it takes 262,144
+    /// publications, and its moments end with the year 9999.
+    pub fn reserve_for(&mut self, number: u32, release: Moment, due: &[Due]) -> Result<(), Memory>
+        ensures keeps { (f : Facts) → Keeps self.old f → Keeps self.new f }
+        ensures ok { OnOk result (HasRoom self.new number release due.now) }
         ensures spare { HasSpare self.old → HasSpare self.new }
     {
+        if !fit_places(number, release, due) {
+            return Err(Memory);
+        }
         self.waiting.reserve()?;
-        reserve_all(&mut self.feeds, &self.names, due)
+        self.feeds.reserve_for(due)
     }
 
     /// Adds a subscriber with an empty feed, unless it is there. It takes no memory.
     pub fn add_subscriber(&mut self, name: Name)
         requires { HasSpare self.old }
-        ensures keeps { (names : List Bytes) (ps : List Pub) (m : ℕ) (acked tries tried : Bytes → ℕ) →
-            Keeps self.old names ps m acked tries tried → is_in name names ≡ false →
-            Keeps self.new (name ∷ names) ps m acked tries tried }
+        ensures keeps { (f : Facts) → Keeps self.old f → is_in name f.names ≡ false →
+            Keeps self.new (record f { names = name ∷ f.names }) }
     {
-        let Some(at) = place_of(&self.names, &name) else {
-            return;
-        };
-        let _ = self.names.insert(at, name);
-        let _ = self.feeds.insert(at, Feed::new(self.alloc, name));
+        self.feeds.add_subscriber(self.alloc, name);
     }
 }

@@ -31,7 +31,7 @@ fn publish_later(
         subscriber: to,
         release: later,
     }];
-    queue.reserve_for(&[to])?;
+    queue.reserve_for(number, release, &due)?;
     queue.add(number, release, &due);
     Ok(())
 }
@@ -57,14 +57,14 @@ fn publish_to_both(
             release: second.1,
         },
     ];
-    queue.reserve_for(&[first.0, second.0])?;
+    queue.reserve_for(number, release, &due)?;
     queue.add(number, release, &due);
     Ok(())
 }
 
 /// Adds a publication that is due to nobody.
 fn publish_to_none(queue: &mut Queue, number: u32, release: Moment) -> Result<(), Memory> {
-    queue.reserve_for(&[])?;
+    queue.reserve_for(number, release, &[])?;
     queue.add(number, release, &[]);
     Ok(())
 }
@@ -295,4 +295,21 @@ fn one_subscriber_waits_no_more(rt: HostRuntime) {
     queue.withdraw_for(&alpha, 1, 2000);
     queue.advance(1000);
     assert!(rt; !queue.waits_until(LAST_MOMENT));
+}
+
+#[test]
+fn what_fits_no_place_is_refused(rt: HostRuntime) {
+    let alpha = Name::read("alpha").expect(&rt, "a name");
+    let beta = Name::read("beta").expect(&rt, "a name");
+    let mut queue = queue_of(rt.alloc(), alpha, beta).expect(&rt, "memory");
+    publish(&mut queue, 67_108_863, 2000, alpha).expect(&rt, "memory");
+    assert!(rt; publish(&mut queue, 67_108_864, 1000, alpha).is_err());
+    assert!(rt; publish(&mut queue, 0, 1000, alpha).is_err());
+    assert!(rt; publish_later(&mut queue, 1, 1000, alpha, 274_877_906_944).is_err());
+
+    // The queue stands as it was.
+    assert!(rt; !queue.waits_until(1999));
+    queue.advance(2000);
+    assert_eq!(rt; queue.facts(&alpha), facts_of(1, 0, 0, false));
+    assert_eq!(rt; queue.number(&alpha, 1), Some(67_108_863));
 }

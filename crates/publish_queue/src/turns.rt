@@ -1,7 +1,7 @@
 //! The order in which feeds may be pushed.
 ghost use Rattle.std.specs.Prelude.{◌≡◌, ℕ, ◌+◌, ◌<◌, ◌≤◌, false, [], if◌then◌else◌, vec_len, vec_capacity, OnOk, Option};
+ghost use Rattle.std.specs.List.Sorted.{IsStrictlySortedBy};
 ghost use Rattle.news_types.specs.Names.{Bytes, same};
-ghost use Rattle.publish_queue.specs.Order.{AscendsBy};
 ghost use Rattle.publish_queue.specs.Turns.{by_turn, has, one, HoldsTurns, IsWith, IsWithout};
 
 use news_types::{Moment, Name};
@@ -62,7 +62,7 @@ impl Turns {
 
     // Takes a turn out.
     fn remove(&mut self, turn: Turn)
-        ensures turns { AscendsBy by_turn self.old.turns.items → IsWithout turn self.old.turns.items self.new.turns.items }
+        ensures turns { IsStrictlySortedBy by_turn self.old.turns.items → IsWithout turn self.old.turns.items self.new.turns.items }
         ensures capacity { vec_capacity self.new.turns ≡ vec_capacity self.old.turns }
     {
         if let Ok(at) = self.turns.binary_search(&turn) {
@@ -72,7 +72,7 @@ impl Turns {
 
     // Puts a turn in.
     fn add(&mut self, turn: Turn)
-        ensures turns { AscendsBy by_turn self.old.turns.items → has turn self.old.turns.items ≡ false → vec_len self.old.turns < vec_capacity self.old.turns →
+        ensures turns { IsStrictlySortedBy by_turn self.old.turns.items → has turn self.old.turns.items ≡ false → vec_len self.old.turns < vec_capacity self.old.turns →
             IsWith turn self.old.turns.items self.new.turns.items }
         ensures capacity { vec_capacity self.old.turns ≤ vec_capacity self.new.turns }
     {

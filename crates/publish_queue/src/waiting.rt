@@ -1,6 +1,7 @@
 //! Publications that wait, in the order in which they are released.
 ghost use Rattle.std.specs.Prelude.{◌≡◌, ◌+◌, ◌<◌, ◌≤◌, false, [], ◌∷◌, OnOk, MatchOption, slice_get};
 ghost use Rattle.std.specs.VecDeque.{deque_len, deque_capacity};
+ghost use Rattle.publish_queue.specs.Places.{FitsPlace};
 ghost use Rattle.publish_queue.specs.Rows.{placed, left, without, is_between, next_in, live, begins_withdrawn, Rising, rising_prop, FirstIsLater};
 
 use crate::marks::{mark_between, pass_over};
@@ -50,32 +51,29 @@ impl WaitingList {
     {
         let first = self.releases.front()?;
         Some(Release {
-            moment: first.moment,
-            number: first.number,
+            moment: first.moment(),
+            number: first.number(),
         })
     }
 
     /// Puts a release behind those that come no later.
     pub fn add(&mut self, release: Release)
-        requires { deque_len self.old.releases < deque_capacity self.old.releases }
+        requires room { deque_len self.old.releases < deque_capacity self.old.releases }
+        requires fits { FitsPlace release }
         ensures releases { live self.new.releases.items ≡ placed release (live self.old.releases.items) }
         ensures len { deque_len self.new.releases ≡ deque_len self.old.releases + 1 }
         ensures capacity { deque_capacity self.old.releases ≤ deque_capacity self.new.releases }
     {
         let at = self
             .releases
-            .partition_point(|other| other.moment <= release.moment);
-        let awaited = Awaited {
-            moment: release.moment,
-            number: release.number,
-            withdrawn: false,
-        };
-        let _ = self.releases.insert(at, awaited);
+            .partition_point(|other| other.moment() <= release.moment);
+        let _ = self.releases.insert(at, Awaited::new(release));
     }
 
     /// Puts a release behind those that come no later, unless its moment has come.
     pub fn add_later(&mut self, release: Release, moment: Moment)
-        requires { deque_len self.old.releases < deque_capacity self.old.releases }
+        requires room { deque_len self.old.releases < deque_capacity self.old.releases }
+        requires fits { FitsPlace release }
         ensures out { release.moment ≤ moment → live self.new.releases.items ≡ live self.old.releases.items }
         ensures later { moment < release.moment → live self.new.releases.items ≡ placed release (live self.old.releases.items) }
     {
@@ -90,8 +88,12 @@ impl WaitingList {
         ensures len { deque_len self.new.releases ≤ deque_len self.old.releases }
         ensures capacity { deque_capacity self.new.releases ≡ deque_capacity self.old.releases }
     {
-        let from = self.releases.partition_point(|other| other.moment < first);
-        let to = self.releases.partition_point(|other| other.moment <= last);
+        let from = self
+            .releases
+            .partition_point(|other| other.moment() < first);
+        let to = self
+            .releases
+            .partition_point(|other| other.moment() <= last);
         mark_between(&mut self.releases, numbers, from, to);
         pass_over(&mut self.releases);
     }

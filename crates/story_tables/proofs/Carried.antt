@@ -10,7 +10,7 @@ use Rattle.news_types.specs.History.{History}
 use Rattle.news_types.specs.Delivery.{pauses, is_paused, acked, tries}
 use Rattle.news_types.specs.Feeds.{Dispatch, feed}
 use Rattle.publish_queue.specs.declared.queue.Queue.{Queue}
-use Rattle.publish_queue.specs.Keeps.{Keeps}
+use Rattle.publish_queue.specs.Keeps.{Facts, Keeps}
 use Rattle.publications.specs.declared.table.FirstFacts.{FirstFacts}
 use Rattle.publications.specs.Keeps.{facts_of}
 use Rattle.news_types.specs.Due.{release_of}
@@ -19,17 +19,18 @@ use Rattle.story_tables.specs.Keeps.{facts_at}
 use Rattle.story_tables.specs.Asked.{pauses_at}
 
 -- a queue keeps facts that agree with those that it keeps
-pub alike : (q : Queue) (ns ks : List Bytes) (ps qs : List Pub) (m : ℕ) (a b t u l k : Bytes → ℕ) → ks ≡ ns → qs ≡ ps → ((s : Bytes) → b s ≡ a s) → ((s : Bytes) → u s ≡ t s) → ((s : Bytes) → k s ≡ l s)
-    → Keeps q ns ps m a t l → Keeps q ks qs m b u k
-alike q ns ks ps qs m a b t u l k names stands receipts attempts last keeps =
-    let one : a ≡ b = λ i s. sym (receipts s) i in
-    let two : t ≡ u = λ i s. sym (attempts s) i in
-    let three : l ≡ k = λ i s. sym (last s) i in
-    subst (λ (n : List Bytes). Keeps q n qs m b u k) (sym names)
-    (subst (λ (p : List Pub). Keeps q ns p m b u k) (sym stands)
-    (subst (λ (f : Bytes → ℕ). Keeps q ns ps m f u k) one
-    (subst (λ (f : Bytes → ℕ). Keeps q ns ps m a f k) two
-    (subst (λ (f : Bytes → ℕ). Keeps q ns ps m a t f) three keeps))))
+pub alike : (q : Queue) (f g : Facts) → g.names ≡ f.names → g.publications ≡ f.publications → ((s : Bytes) → g.acked s ≡ f.acked s) → ((s : Bytes) → g.tries s ≡ f.tries s) → ((s : Bytes) → g.tried s ≡ f.tried s)
+    → Keeps q f → Keeps q (record g { moment = f.moment })
+alike q f g names stands receipts attempts last keeps =
+    let same_facts : f ≡ record g { moment = f.moment } = λ i. record {
+      names = sym names i;
+      publications = sym stands i;
+      moment = f.moment;
+      acked = λ s. sym (receipts s) i;
+      tries = λ s. sym (attempts s) i;
+      tried = λ s. sym (last s) i;
+    } in
+    subst (Keeps q) same_facts keeps
 
 less_zero : (n : ℕ) → nat_lt 0 (suc n) ≡ true
 less_zero n = grind (arith, nat_tests)

@@ -391,11 +391,6 @@ pub step_for : (s : FeedStep) (h : History) (x : declared_issue.Issue) (what : I
     → IsStepOf s what.kind what.item (pubs h) (standing h) n what.release due
 step_for s h x what it n due same given = subst (λ (y : declared_issue.Issue). IsStepOf s y.kind y.item (pubs h) (standing h) n y.release due) same given
 
-pub step_room : (q : Queue) (s : FeedStep) (k : Kind) (i : ℕ) (ps st : List Pub) (n r : ℕ) (due : Vec Due Global) → IsStepOf s k i ps st n r due → HasRoom q (names_in due.items) → Differ (names_in due.items) → HasFeedRoom q s
-step_room q (step.Publish m o d) k i ps st n r due is room differ = subst (λ (v : Vec Due Global). HasRoom q (names_in v.items) × Differ (names_in v.items)) (sym is.3) (room, differ)
-step_room q (step.TakeBack ns spans m d) k i ps st n r due is room differ = subst (λ (v : Vec Due Global). HasRoom q (names_in v.items) × Differ (names_in v.items)) (sym is.4) (room, differ)
-step_room q _ k i ps st n r due is room differ = absurd is
-
 -- ---- the step of the publications
 
 self_item : (i : ℕ) → (i == i) ≡ true

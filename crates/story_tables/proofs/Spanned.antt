@@ -1,12 +1,15 @@
 -- Between which moments what stands of an item is released.
-use Rattle.std.proofs.Common.{Global, ◌≡◌, ℕ, ◌≤◌, ◌<◌, ◌==◌, ◌&&◌, ◌||◌, Bool, true, false, cond, max, List, [], ◌∷◌, Option, Some, None, refl, sym, ap, ◌∙◌, arith}
-use Rattle.std.specs.Prelude.{Vec, Result, Ok, Err, IfOk, nat_le, unwrap_or}
+use Rattle.std.proofs.Common.{Global, ◌≡◌, ℕ, ◌≤◌, ◌<◌, ◌==◌, ◌&&◌, ◌||◌, Bool, true, false, cond, max, List, [], ◌∷◌, length, get_or, drop, ◌+◌, Option, Some, None, refl, sym, ap, ◌∙◌, arith}
+use Rattle.std.specs.Prelude.{Vec, Result, Ok, Err, IfOk, nat_le, unwrap_or, is_some}
+use Rattle.std.specs.Option.{option_or}
+use Rattle.std.proofs.lemmas.List.{at_drop_more}
+use Rattle.std.proofs.lemmas.Bool.{false≢true}
 use Rattle.std.proofs.lemmas.Bool.Decides.{nat_tests}
 use Rattle.news_types.specs.declared.query.Due.{Due}
 use Rattle.news_types.specs.Names.{Bytes, same}
 use Rattle.news_types.specs.Members.{Each}
 use Rattle.news_types.specs.Due.{Pub, release_to, is_by, had_by, latest}
-use Rattle.news_types.proofs.Members.{same_is}
+use Rattle.news_types.proofs.Members.{same_is, same_self}
 use Rattle.publish_queue.specs.declared.release.Span.{Span}
 use Rattle.publish_queue.specs.Rows.{is_among}
 use Rattle.publish_queue.specs.Many.{is_within}
@@ -83,3 +86,50 @@ have_item i numbers (q ∷ qs) all = (λ among. sym all.0 ∙ among, have_item i
 pub or_none : (b : Bool) → (b || false) ≡ b
 or_none true = refl
 or_none false = refl
+
+-- ---- the map of the newest releases
+
+same_turned : (a b : Bytes) → same a b ≡ same b a
+same_turned a b = by (same a b) (same b a) refl refl
+  where
+    by : (x y : Bool) → same a b ≡ x → same b a ≡ y → x ≡ y
+    by true true one two = refl
+    by true false one two = absurd (false≢true (sym two ∙ ap (λ t. same t a) (sym (same_is a b one)) ∙ same_self a))
+    by false true one two = absurd (false≢true (sym one ∙ ap (λ t. same t b) (sym (same_is b a two)) ∙ same_self b))
+    by false false one two = refl
+
+-- one that is there stays
+pub put_stays : (f : Bytes → Option ℕ) (d : Due) → is_some (f d.subscriber) ≡ true → (s : Bytes) → f s ≡ option_or (f s) (release_to s (d ∷ []))
+put_stays f d there s = by (same s d.subscriber) refl (f s) refl
+  where
+    by : (b : Bool) → same s d.subscriber ≡ b → (o : Option ℕ) → f s ≡ o → o ≡ option_or o (cond b (Some d.release) None)
+    by b is (Some r) at = refl
+    by true is None at = absurd (false≢true (sym (ap is_some (ap f (sym (same_is s d.subscriber is)) ∙ at)) ∙ there))
+    by false is None at = refl
+
+-- one that was not there is put
+pub put_there : (f : Bytes → Option ℕ) (d : Due) → is_some (f d.subscriber) ≡ false → (s : Bytes) → cond (same d.subscriber s) (Some d.release) (f s) ≡ option_or (f s) (release_to s (d ∷ []))
+put_there f d gone s = ap (λ b. cond b (Some d.release) (f s)) (same_turned d.subscriber s) ∙ by (same s d.subscriber) refl (f s) refl
+  where
+    by : (b : Bool) → same s d.subscriber ≡ b → (o : Option ℕ) → f s ≡ o → cond b (Some d.release) o ≡ option_or o (cond b (Some d.release) None)
+    by true is (Some r) at = absurd (false≢true (sym gone ∙ ap is_some (ap f (sym (same_is s d.subscriber is)) ∙ at)))
+    by true is None at = refl
+    by false is (Some r) at = refl
+    by false is None at = refl
+
+or_next : (o : Option ℕ) (s : Bytes) (d : Due) (rest : List Due) → option_or (option_or o (release_to s (d ∷ []))) (release_to s rest) ≡ option_or o (release_to s (d ∷ rest))
+or_next (Some r) s d rest = refl
+or_next None s d rest = by (same s d.subscriber)
+  where
+    by : (b : Bool) → option_or (cond b (Some d.release) None) (release_to s rest) ≡ cond b (Some d.release) (release_to s rest)
+    by true = refl
+    by false = refl
+
+-- one more is in the map
+pub map_next : (s : Bytes) (due : List Due) (i : ℕ) (d : Due) (before after : Option ℕ) → i < length due → d ≡ get_or due i d → after ≡ option_or before (release_to s (d ∷ []))
+    → option_or before (release_to s (drop i due)) ≡ release_to s due → option_or after (release_to s (drop (i + 1) due)) ≡ release_to s due
+map_next s due i d before after lt is now all =
+    ap (λ o. option_or o (release_to s (drop (i + 1) due))) now
+    ∙ or_next before s d (drop (i + 1) due)
+    ∙ sym (ap (option_or before) (at_drop_more (release_to s) due i d lt ∙ rw (← is) refl))
+    ∙ all

@@ -2,18 +2,21 @@
 use Rattle.std.specs.Prelude.{◌≡◌, ◌≤◌, ◌<◌, ◌==◌, ◌&&◌, not, nat_le, ℕ, true, false, List, [], ◌∷◌, map, unwrap_or, Vec, Option, Some, None, if◌then◌else◌}
 use Rattle.std.specs.Global.{Global}
 use Rattle.std.specs.List.{filter}
+use Rattle.std.specs.HashMap.{HashMap, get}
 use Rattle.news_types.specs.declared.query.Due.{Due}
 use Rattle.news_types.specs.Names.{Bytes, same, is_in}
 use Rattle.news_types.specs.Members.{Each}
 use Rattle.news_types.specs.declared.command.Command.{Command}
 use Rattle.news_types.specs.declared.command.Command.TheVariants as command
+use Rattle.news_types.specs.declared.words.Kind.{Kind}
+use Rattle.news_types.specs.declared.words.Kind.TheVariants as kind
 use Rattle.news_types.specs.History.{History, moment}
 use Rattle.news_types.specs.Products.{subscribers}
 use Rattle.news_types.specs.Due.{Pub, release_to, is_due, had_by, latest, taken_back}
 use Rattle.news_types.specs.Publications.{standing}
 use Rattle.news_types.specs.Delivery.{acked, tries, tried}
 use Rattle.publish_queue.specs.declared.queue.Queue.{Queue}
-use Rattle.publish_queue.specs.Keeps.{Keeps, HasRoom, HasSpare, IsFair}
+use Rattle.publish_queue.specs.Keeps.{Keeps, HasRoom, HasSpare, IsFair, facts}
 use Rattle.publish_queue.specs.declared.release.Span.{Span}
 use Rattle.publish_queue.specs.Withdrawn.{AreOfItem, HasRelease, AreWithin}
 use Rattle.publish_queue.specs.Order.{Differ}
@@ -24,7 +27,7 @@ use Rattle.story_tables.specs.declared.feeds.FeedStep.TheVariants.{Subscriber, R
 
 -- the queue keeps the feeds of the list at a moment
 abbrev pub KeepsQueue : Queue → History → ℕ → Type 0
-KeepsQueue q h m = Keeps q (subscribers h) (standing h) m (acked h) (tries h) (tried h)
+KeepsQueue q h m = Keeps q (record (facts h) { moment = m })
 
 -- what was sent and acknowledged stays, behind h as behind g
 pub record SameDelivery (h g : History) : Type 0 where
@@ -60,6 +63,10 @@ pub record Issues (number release : ℕ) (due : List Due) (h g : History) : Type
   pub known : (s : Bytes) → is_due s p ≡ true → is_in s (subscribers h) ≡ true
 
 -- ---- when what stands of an item is released
+
+-- the map has the release for each subscriber
+abbrev pub AreReleases : {S : Type 0} → HashMap Bytes ℕ S → List Due → Type 0
+AreReleases releases due = (s : Bytes) → get same releases s ≡ release_to s due
 
 abbrev pub last_release : List Due → Bytes → ℕ
 last_release newest s = unwrap_or (release_to s newest) 0
@@ -115,12 +122,19 @@ FeedsFor (TakeBack numbers spans number due) h g = Retracts numbers.items spans.
 FeedsFor (Withdraw number release spans) h g = Takes number release spans.items h g
 FeedsFor Nothing h g = Stays h g
 
--- the queue has the memory for the step
-abbrev pub HasFeedRoom : Queue → FeedStep → Type 0
-HasFeedRoom q (Subscriber name) = HasSpare q
-HasFeedRoom q (Publish number release due) = HasRoom q (names_in due.items) × Differ (names_in due.items)
-HasFeedRoom q (TakeBack numbers spans number due) = HasRoom q (names_in due.items) × Differ (names_in due.items)
-HasFeedRoom q _ = Unit {0}
+-- the queue has the memory for the step of an entry at the moment
+abbrev pub HasFeedRoom : Queue → ℕ → FeedStep → Type 0
+HasFeedRoom q m (Subscriber name) = HasSpare q
+HasFeedRoom q m (Publish number release due) = HasRoom q number release due.items × Differ (names_in due.items)
+HasFeedRoom q m (TakeBack numbers spans number due) = HasRoom q number m due.items × Differ (names_in due.items)
+HasFeedRoom q m _ = Unit {0}
+
+-- when a publication of that kind is released itself, behind an entry at the moment: what takes back is at once
+abbrev pub own_release : Kind → ℕ → ℕ → ℕ
+own_release kind.First release m = release
+own_release kind.Correct release m = release
+own_release kind.Kill release m = m
+own_release kind.Recall release m = m
 
 -- what a command that publishes and withdraws nothing does to the feeds
 abbrev pub feeds_of : Command → FeedStep

@@ -3,9 +3,8 @@ use Rattle.std.specs.Prelude.{◌<◌, length}
 use Rattle.news_types.specs.History.{History, moment}
 use Rattle.news_types.specs.Legal.{IsLegal}
 use Rattle.news_types.specs.Names.{Bytes}
-use Rattle.news_types.specs.Publications.{standing}
-use Rattle.news_types.specs.Delivery.{acked, tries}
 use Rattle.publish_queue.specs.declared.ask.FeedFacts.{FeedFacts}
+use Rattle.publish_queue.specs.Keeps.{facts}
 use Rattle.publish_queue.specs.Facts.{facts_of}
 use Rattle.item_table.specs.Keeps.{KeepsFacts as KeepsItems}
 use Rattle.publications.specs.Keeps.{KeepsFacts as KeepsPublications}
@@ -24,4 +23,4 @@ HasPlace t = (h : History) × (KeepsStories t h × IsLegal h × (length h < 4294
 
 -- how the feed of a subscriber stands
 abbrev pub facts_at : History → Bytes → FeedFacts
-facts_at h s = facts_of (standing h) (moment h) (acked h) (tries h) s
+facts_at h s = facts_of (facts h) s

@@ -18,7 +18,7 @@ use Rattle.story_tables.specs.declared.stories.Stories.{Stories}
 pub record HasRoom (t : Stories) (c : Parts) : Type 0 where
   pub items : HasItemRoom t.items c.items
   pub publications : HasPublicationRoom t.publications c.publications
-  pub feeds : HasFeedRoom t.queue c.feeds
+  pub feeds : HasFeedRoom t.queue c.moment c.feeds
 
 -- the change is that of the act at the moment, behind the list
 pub record IsFor (c : Parts) (m : ℕ) (act : Act) (h : History) : Type 0 where

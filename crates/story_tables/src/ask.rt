@@ -1,5 +1,5 @@
 //! What the tables are asked.
-ghost use Rattle.std.specs.Prelude.{◌≡◌, Some, None, if◌then◌else◌, nat_lt, is_some, length, IfOk, option_map};
+ghost use Rattle.std.specs.Prelude.{◌≡◌, Some, None, if◌then◌else◌, is_some, length, IfOk, option_map};
 ghost use Rattle.std.specs.List.{list_all};
 ghost use Rattle.news_types.specs.Names.{is_in};
 ghost use Rattle.news_types.specs.History.{History};
@@ -7,8 +7,7 @@ ghost use Rattle.news_types.specs.Products.{subscribers, is_subscriber};
 ghost use Rattle.news_types.specs.Due.{standing_first, release_of};
 ghost use Rattle.news_types.specs.Publications.{standing, state};
 ghost use Rattle.news_types.specs.Delivery.{is_paused};
-ghost use Rattle.news_types.specs.Denial.{unless, items_full, pubs_full};
-ghost use Rattle.news_types.specs.declared.denial.Denial.TheVariants.{Limit};
+ghost use Rattle.news_types.specs.Denial.{items_full, pubs_full};
 ghost use Rattle.story_tables.specs.Keeps.{KeepsStories, HasPlace, facts_at};
 ghost use Rattle.news_types.specs.Items as items;
 ghost use Rattle.news_types.specs.Publications as published;
@@ -116,14 +115,14 @@ impl Stories {
     pub fn items_full(&self) -> Option<Denial>
         ensures { (h : History) → KeepsStories self.now h → result ≡ items_full h }
     {
-        full(Thing::Item, self.items.len())
+        Denial::unless_below(Thing::Item, self.items.len(), MOST)
     }
 
     /// That there are too many publications for one more. It takes no memory.
     pub fn publications_full(&self) -> Option<Denial>
         ensures { (h : History) → KeepsStories self.now h → result ≡ pubs_full h }
     {
-        full(Thing::Publication, self.publications.len())
+        Denial::unless_below(Thing::Publication, self.publications.len(), MOST)
     }
 }
 
@@ -139,17 +138,4 @@ fn paused_by(facts: Option<FeedFacts>) -> Option<bool>
 {
     let facts = facts?;
     Some(facts.acked < facts.length && facts.tries == MOST_TRIES)
-}
-
-/// That there are so many already.
-fn full(which: Thing, count: usize) -> Option<Denial>
-    ensures { result ≡ unless (nat_lt count 262144) (Limit which 262144) }
-{
-    if count < MOST as usize {
-        return None;
-    }
-    Some(Denial::Limit {
-        which,
-        number: MOST,
-    })
 }

@@ -41,7 +41,7 @@ pub(crate) enum FeedStep {
 
 /// Does it, and goes on to the moment. It takes no memory.
 pub(crate) fn go(queue: &mut Queue, step: FeedStep, moment: Moment)
-    requires { HasFeedRoom queue.old step }
+    requires { HasFeedRoom queue.old moment step }
     ensures { (h g : History) → KeepsQueue queue.old h (last_moment h) → FeedsFor step h g → last_moment h ≤ moment → last_moment g ≡ moment → KeepsQueue queue.new g moment }
 {
     match step {
@@ -78,7 +78,7 @@ pub(crate) fn go(queue: &mut Queue, step: FeedStep, moment: Moment)
 
 /// Adds a publication that is due to these, and goes on to the moment. It takes no memory.
 fn publish(queue: &mut Queue, number: u32, release: Moment, due: &[Due], moment: Moment)
-    requires room { HasRoom queue.old (names_in due.now) }
+    requires room { HasRoom queue.old number release due.now }
     requires differ { Differ (names_in due.now) }
     ensures { (h g : History) → KeepsQueue queue.old h (last_moment h) → Issues number release due.now h g → last_moment h ≤ moment → KeepsQueue queue.new g moment }
 {
@@ -96,7 +96,7 @@ fn take_back(
     due: &[Due],
     moment: Moment,
 )
-    requires room { HasRoom queue.old (names_in due.now) }
+    requires room { HasRoom queue.old number moment due.now }
     requires differ { Differ (names_in due.now) }
     ensures { (h g : History) → KeepsQueue queue.old h (last_moment h) → Retracts numbers.now spans.now number due.now h g → last_moment h ≤ moment → last_moment g ≡ moment → KeepsQueue queue.new g moment }
 {

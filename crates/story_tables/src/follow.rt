@@ -14,7 +14,7 @@ ghost use Rattle.publish_queue.specs.declared.queue.Queue.{Queue};
 ghost use Rattle.publish_queue.specs.Keeps.{HasRoom as HasQueueRoom};
 ghost use Rattle.publish_queue.specs.Order.{Differ};
 ghost use Rattle.publish_queue.specs.Many.{names_in};
-ghost use Rattle.story_tables.specs.Feeds.{HasFeedRoom};
+ghost use Rattle.story_tables.specs.Feeds.{HasFeedRoom, own_release};
 ghost use Rattle.story_tables.specs.Issued.{issues, issued_of, issue_shown, left_by_kind, IsTold, given_by_kind, IsStepOf};
 ghost use Rattle.story_tables.specs.Keeps.{KeepsStories, HasPlace};
 ghost use Rattle.story_tables.specs.Parts.{HasRoom, IsFor};
@@ -25,7 +25,7 @@ use crate::issue::Issue;
 use crate::parts::Parts;
 use crate::stories::Stories;
 use item_table::SharedStory;
-use news_types::{Command, Due, Kind, Memory, Moment, Name, Names, Reply};
+use news_types::{Command, Due, Kind, Memory, Moment, Names, Reply};
 use publications::{OfItem, PublicationChange, Publications, Published};
 use std::alloc::Global;
 
@@ -36,15 +36,13 @@ impl Stories {
         &mut self,
         command: &Command,
         issue: Issue,
-        names: &[Name],
         due: Vec<Due>,
         moment: Moment,
         entries: u64,
     ) -> Result<Parts, Memory>
         requires place { HasPlace self.old }
         requires few { entries < 4294967295 }
-        requires differ { Differ names.now }
-        requires names { names_in due.items ≡ names.now }
+        requires differ { Differ (names_in due.items) }
         ensures stays { (h : History) → KeepsStories self.old h → KeepsStories self.new h }
         ensures room { IfOk result (λ parts. HasRoom self.new parts) }
         ensures change { (h : History) (caller : Bytes) (number : ℕ) → KeepsStories self.old h → entries ≡ length h → issues command.now ≡ true → IsLegal (entry_of moment (Request caller number command.now) ∷ h)
@@ -63,7 +61,8 @@ impl Stories {
             issue,
             &due,
         )?;
-        self.queue.reserve_for(names)?;
+        let own = own_release(kind, release, moment);
+        self.queue.reserve_for(number, own, &due)?;
         let feeds = self.step_of(kind, item, number, release, due)?;
         Ok(Parts {
             moment,
@@ -89,7 +88,7 @@ impl Stories {
         due: Vec<Due>,
     ) -> Result<FeedStep, Memory>
         ensures step { (ps st : List Pub) → KeepsPublications self.now.publications ps st → IfOk result (λ step. IsStepOf step kind item ps st number release due) }
-        ensures room { (queue : Queue) → HasQueueRoom queue (names_in due.items) → Differ (names_in due.items) → IfOk result (λ step. HasFeedRoom queue step) }
+        ensures room { (queue : Queue) (m : ℕ) → HasQueueRoom queue number (own_release kind release m) due.items → Differ (names_in due.items) → IfOk result (λ step. HasFeedRoom queue m step) }
     {
         match kind {
             Kind::First | Kind::Correct => Ok(FeedStep::Publish {
@@ -104,6 +103,16 @@ impl Stories {
                 due,
             }),
         }
+    }
+}
+
+/// When a publication of that kind is released itself: what takes back is at the moment of its entry.
+fn own_release(kind: Kind, release: Moment, moment: Moment) -> Moment
+    ensures { result ≡ own_release kind release moment }
+{
+    match kind {
+        Kind::First | Kind::Correct => release,
+        Kind::Kill | Kind::Recall => moment,
     }
 }
 

@@ -144,7 +144,7 @@ impl Stories {
     // Takes the memory for what a command does to the feeds.
     fn prepare_feeds(&mut self, command: &Command) -> Result<FeedStep, Memory>
         ensures stays { (h : History) → KeepsStories self.old h → KeepsStories self.new h }
-        ensures room { IfOk result (λ step. HasFeedRoom self.new.queue step) }
+        ensures room { (m : ℕ) → IfOk result (λ step. HasFeedRoom self.new.queue m step) }
         ensures items { self.new.items ≡ self.old.items }
         ensures step { IfOk result (λ step. step ≡ feeds_of command.now) }
     {

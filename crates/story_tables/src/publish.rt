@@ -16,7 +16,7 @@ use crate::feeds::FeedStep;
 use crate::parts::Parts;
 use crate::stories::Stories;
 use item_table::SharedStory;
-use news_types::{Due, Kind, Memory, Moment, Name, Names, Reply, State, Story};
+use news_types::{Due, Kind, Memory, Moment, Names, Reply, State, Story};
 use publications::{OfItem, Published};
 
 impl Stories {
@@ -26,15 +26,13 @@ impl Stories {
         &mut self,
         story: &Story,
         targets: &Names,
-        names: &[Name],
         due: Vec<Due>,
         moment: Moment,
         entries: u64,
     ) -> Result<Parts, Memory>
         requires place { HasPlace self.old }
         requires few { entries < 4294967295 }
-        requires differ { Differ names.now }
-        requires names { names_in due.items ≡ names.now }
+        requires differ { Differ (names_in due.items) }
         ensures stays { (h : History) → KeepsStories self.old h → KeepsStories self.new h }
         ensures room { IfOk result (λ parts. HasRoom self.new parts) }
         ensures change { (h : History) (caller : Bytes) (number : ℕ) → KeepsStories self.old h → entries ≡ length h → last_moment h ≤ moment → IsDueTo due.items h (standing h) kind.First (item_count h + 1) story.now moment targets.now
@@ -59,7 +57,7 @@ impl Stories {
         };
         let publications = self.publications.prepare(row, of)?;
         let items = self.items.prepare_new(State::Scheduled, shared)?;
-        self.queue.reserve_for(names)?;
+        self.queue.reserve_for(number, moment, &due)?;
         Ok(Parts {
             moment,
             reply: Reply {

@@ -26,15 +26,13 @@ impl Stories {
         provider: Name,
         come: &Incoming,
         place: &Place,
-        names: &[Name],
         due: Vec<Due>,
         moment: Moment,
         entries: u64,
     ) -> Result<Parts, Memory>
         requires place { HasPlace self.old }
         requires few { entries < 4294967295 }
-        requires differ { Differ names.now }
-        requires names { names_in due.items ≡ names.now }
+        requires differ { Differ (names_in due.items) }
         ensures stays { (h : History) → KeepsStories self.old h → KeepsStories self.new h }
         ensures room { IfOk result (λ parts. HasRoom self.new parts) }
         ensures change { (h : History) → KeepsStories self.old h → entries ≡ length h → last_moment h ≤ moment → effect h provider come.now moment ≡ NewAt place.now true
@@ -67,7 +65,7 @@ impl Stories {
             &come.identity,
             come.created,
         )?;
-        self.queue.reserve_for(names)?;
+        self.queue.reserve_for(number, release, &due)?;
         Ok(Parts {
             moment,
             reply: Reply {

@@ -13,11 +13,8 @@ pub prepare_flash-requires-clause-differ : goal.prepare_flash-requires-clause-di
 prepare_flash-requires-clause-differ c =
     let h = c.requires.stands.0 in
     let stands = c.requires.stands.1.0 in
-    subst Differ (sym c.as_slice-names.ensures)
+    subst Differ (sym (c.in_ok-releases.ensures.names ∙ c.as_slice-names.ensures))
     (ordered_differ _ (c.in_ok-due.ensures h (standing h) (item_count h + 1) c.args.moment stands.rules (λ s. sym (none_had (item_count h) (item_count h + 1) (standing h) s (omega arith) (standing_to h)))).order)
-
-pub prepare_flash-requires-clause-names : goal.prepare_flash-requires-clause-names
-prepare_flash-requires-clause-names c = c.in_ok-releases.ensures.names
 
 pub returns-clause-change : goal.returns-clause-change
 returns-clause-change c h caller number stands later =

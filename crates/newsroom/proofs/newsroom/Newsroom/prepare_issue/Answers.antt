@@ -14,10 +14,7 @@ prepare_issue-requires-clause-differ c =
     let stands = c.requires.stands.1.0 in
     let issue = c.args.issue in
     let earlier = earlier_by _ _ (standing h) issue.kind issue.item issue.release c.as_slice-2.ensures (c.in_ok-reached.ensures h stands.stories) in
-    subst Differ (sym c.as_slice-names.ensures) (ordered_differ _ (c.in_ok-due.ensures h (standing h) issue.item issue.release stands.rules earlier).order)
-
-pub prepare_issue-requires-clause-names : goal.prepare_issue-requires-clause-names
-prepare_issue-requires-clause-names c = c.in_ok-releases.ensures.names
+    subst Differ (sym (c.in_ok-releases.ensures.names ∙ c.as_slice-names.ensures)) (ordered_differ _ (c.in_ok-due.ensures h (standing h) issue.item issue.release stands.rules earlier).order)
 
 pub returns-clause-change : goal.returns-clause-change
 returns-clause-change c h caller number stands issues legal same =

@@ -14,7 +14,7 @@ pub prepare_routed-requires-clause-differ : goal.prepare_routed-requires-clause-
 prepare_routed-requires-clause-differ c =
     let h = c.requires.stands.0 in
     let stands = c.requires.stands.1.0 in
-    subst Differ (sym c.as_slice-names.ensures)
+    subst Differ (sym (c.in_ok-releases.ensures.names ∙ c.as_slice-names.ensures))
     (ordered_differ _ (c.in_ok-due.ensures h (standing h) (item_count h + 1) c.args.moment stands.rules (λ s. sym (none_had (item_count h) (item_count h + 1) (standing h) s (omega arith) (standing_to h)))).order)
 
 pub returns-clause-change : goal.returns-clause-change

@@ -1,23 +1,26 @@
 use Rattle.std.proofs.Common.{◌∙◌}
 use Rattle.publish_queue.proofs.OneFeed.{own_added}
 use Rattle.publish_queue.proofs.Comings.{next_added}
-use Rattle.publish_queue.proofs.AllFeeds.{feeds_added, still_untouched, apart_from}
+use Rattle.publish_queue.proofs.AllFeeds.{feeds_added, still_untouched, apart_from, subscribed_still}
 use Rattle.publish_queue.proofs.queue.Queue.add.Goals as goal
+
+pub add_later-requires-clause-fits : goal.add_later-requires-clause-fits
+add_later-requires-clause-fits c = c.requires.room.fits.own
+
+pub add-requires-clause-fits : goal.add-requires-clause-fits
+add-requires-clause-fits c = c.requires.room.fits.each
 
 pub returns : goal.returns
 returns c = record {
-  keeps = λ names ps m acked tries tried p keeps le number release alike fair known. record {
+  keeps = λ known p keeps le number release alike fair listed. record {
     at = keeps.at;
-    subscribed = keeps.subscribed;
-    feeds = feeds_added ps m p c.args.due.now _ _ (rw (number, ← keeps.at) c.add_all.ensures.spread) (rw release le) fair alike keeps.feeds;
-    others = λ s none. still_untouched ps p acked tries tried s (apart_from s p names known none) (keeps.others s none);
-    waits = own_added m p ps _ (λ out. c.add_later.ensures.out (rw (keeps.at, ← release) out) ∙ keeps.waits)
+    subscribed = subscribed_still _ _ known.names c.add.ensures.names keeps.subscribed;
+    feeds = feeds_added known p c.args.due.now _ _ (rw (number, ← keeps.at) c.add.ensures.spread) (rw release le) fair alike keeps.feeds;
+    others = λ s none. still_untouched known p s (apart_from s p known.names listed none) (keeps.others s none);
+    waits = own_added known.moment p known.publications _ (λ out. c.add_later.ensures.out (rw (keeps.at, ← release) out) ∙ keeps.waits)
         (λ later. rw (← keeps.waits, number, release) (c.add_later.ensures.later (rw (keeps.at, ← release) later)));
-    next = next_added ps m p c.args.due.now c.args.self.now.next _ fair.agree c.requires.differ alike keeps.next (rw (release, ← keeps.at) c.next_with-self.ensures);
+    next = next_added known.publications known.moment p c.args.due.now c.args.self.now.next _ fair.agree c.requires.differ alike keeps.next (rw (release, ← keeps.at) c.next_with-self.ensures);
     fair = (fair, keeps.fair);
-    ordered = c.add_all.ensures.ordered keeps.ordered;
+    ordered = c.add.ensures.ordered keeps.ordered;
   };
 }
-
-pub invariant_of-self-clause-named : goal.invariant_of-self-clause-named
-invariant_of-self-clause-named c = c.add_all.ensures.names ∙ c.args.self.now.named

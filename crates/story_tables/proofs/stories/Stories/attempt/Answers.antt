@@ -7,5 +7,5 @@ returns c h k keeps later ready =
     record {
       items = keeps.items;
       publications = keeps.publications;
-      queue = c.advance.ensures.keeps _ _ _ _ _ _ (c.attempt.ensures.keeps _ _ _ _ _ _ keeps.queue there.0 there.1) later;
+      queue = c.advance.ensures.keeps _ (c.attempt.ensures.keeps _ keeps.queue there.0 there.1) later;
     }

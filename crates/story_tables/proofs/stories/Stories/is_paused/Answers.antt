@@ -9,4 +9,4 @@ use Rattle.story_tables.proofs.stories.Stories.is_paused.Goals as goal
 pub returns : goal.returns
 returns c h keeps =
     let s = c.args.subscriber.now in
-    c.paused_by.ensures ∙ ap (option_map pauses_at) (c.facts.ensures _ _ _ _ _ _ keeps.queue) ∙ paused_told h s (is_in s (subscribers h))
+    c.paused_by.ensures ∙ ap (option_map pauses_at) (c.facts.ensures _ keeps.queue) ∙ paused_told h s (is_in s (subscribers h))

@@ -4,7 +4,6 @@ use Rattle.news_types.specs.declared.words.State.TheVariants.{Scheduled}
 use Rattle.item_table.specs.declared.change.Step.TheVariants as step
 use Rattle.item_table.specs.Rows.{new_row}
 use Rattle.news_types.specs.declared.words.Kind.TheVariants as kind
-use Rattle.publish_queue.specs.Order.{Differ}
 use Rattle.story_tables.proofs.Publishing.{first_with}
 use Rattle.story_tables.proofs.RoutedOut.{routed_items, routed_publications, routed_feeds, routed_reply}
 use Rattle.story_tables.proofs.stories.Stories.prepare_routed.Goals as goal
@@ -19,14 +18,14 @@ pub returns-in_err-reserve_for-clause-stays : goal.returns-in_err-reserve_for-cl
 returns-in_err-reserve_for-clause-stays c h keeps = record {
   items = c.prepare_come.ensures.stays _ keeps.items;
   publications = c.prepare.ensures.stays _ _ keeps.publications;
-  queue = c.reserve_for.ensures.keeps _ _ _ _ _ _ keeps.queue;
+  queue = c.reserve_for.ensures.keeps _ keeps.queue;
 }
 
 pub returns-clause-stays : goal.returns-clause-stays
 returns-clause-stays c h keeps = record {
   items = c.prepare_come.ensures.stays _ keeps.items;
   publications = c.prepare.ensures.stays _ _ keeps.publications;
-  queue = c.reserve_for.ensures.keeps _ _ _ _ _ _ keeps.queue;
+  queue = c.reserve_for.ensures.keeps _ keeps.queue;
 }
 
 pub returns-clause-change : goal.returns-clause-change
@@ -47,6 +46,6 @@ returns-clause-change c h keeps counted after does due =
       publications = routed_publications h m name come place does c.in_ok-publications.publications _ _ c.next_publication-number.result c.next_item-item.result c.args.due.items c.in_ok-publications.ensures.change
           (λ j. record { item = c.next_item-item.result; version = 1; kind = kind.First; release = release j; story = shown j })
           (λ j. first_with c.next_publication-number.result (release j) ((c.of-2.ensures ∙ c.new.ensures.items) j))
-          (c.in_ok-from_slice.ensures.items ∙ c.deref.ensures.value) (c.in_ok-from_slice-2.ensures.items ∙ c.deref-2.ensures.value) (subst Differ (sym c.requires.names) c.requires.differ) publication item due;
+          (c.in_ok-from_slice.ensures.items ∙ c.deref.ensures.value) (c.in_ok-from_slice-2.ensures.items ∙ c.deref-2.ensures.value) c.requires.differ publication item due;
       feeds = routed_feeds h m name come place does c.next_publication-number.result c.args.due publication after due;
     })

@@ -17,3 +17,10 @@ returns-clause-change c h caller number keeps counted silent may =
       publications = publications_stay h m number caller command c.nothing.result silent c.nothing.ensures;
       feeds = subst (λ f. FeedsFor f h (entry_of m (Request caller number command) ∷ h)) (sym c.in_ok-feeds.ensures.step) (feeds_for h m number caller command silent may);
     }
+
+pub returns-clause-room : goal.returns-clause-room
+returns-clause-room c = record {
+  items = rw c.in_ok-feeds.ensures.items c.in_ok-items.ensures.room;
+  publications = rw c.nothing.ensures (record { room = tt });
+  feeds = c.in_ok-feeds.ensures.room c.args.moment;
+}

@@ -6,4 +6,4 @@ use Rattle.news_types.specs.Denial.{unless}
 use Rattle.story_tables.proofs.stories.Stories.publications_full.Goals as goal
 
 pub returns : goal.returns
-returns c h keeps = c.full.ensures ∙ ap (λ n. unless (nat_lt n 262144) (Limit thing.Publication 262144)) (c.len.ensures _ _ keeps.publications)
+returns c h keeps = c.unless_below.ensures ∙ ap (λ n. unless (nat_lt n 262144) (Limit thing.Publication 262144)) (c.len.ensures _ _ keeps.publications)

@@ -9,4 +9,4 @@ use Rattle.story_tables.proofs.stories.Stories.queue_row.Goals as goal
 pub returns : goal.returns
 returns c h keeps =
     let s = c.args.subscriber.now in
-    c.row_by.ensures ∙ ap (option_map (row_by s)) (c.facts.ensures _ _ _ _ _ _ keeps.queue) ∙ row_told h s (is_in s (subscribers h))
+    c.row_by.ensures ∙ ap (option_map (row_by s)) (c.facts.ensures _ keeps.queue) ∙ row_told h s (is_in s (subscribers h))

@@ -4,5 +4,5 @@ pub returns : goal.returns
 returns c h keeps later raises there = record {
   items = keeps.items;
   publications = keeps.publications;
-  queue = c.advance.ensures.keeps _ _ _ _ _ _ (c.receipt.ensures.keeps _ _ _ _ _ _ keeps.queue there raises) later;
+  queue = c.advance.ensures.keeps _ (c.receipt.ensures.keeps _ keeps.queue there raises) later;
 }

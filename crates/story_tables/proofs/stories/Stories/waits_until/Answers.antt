@@ -1,4 +1,4 @@
 use Rattle.story_tables.proofs.stories.Stories.waits_until.Goals as goal
 
 pub returns : goal.returns
-returns c h keeps = c.waits_until.ensures _ _ _ _ _ _ keeps.queue
+returns c h keeps = c.waits_until.ensures _ keeps.queue
