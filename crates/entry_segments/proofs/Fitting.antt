@@ -12,7 +12,7 @@ use Rattle.std.proofs.lemmas.Bool.Decides.{nat_tests}
 use Rattle.std.proofs.lemmas.List.Concat.{flat_map-cons}
 use Rattle.std.proofs.lemmas.List.{append-nil}
 use Rattle.std.proofs.Math.ListN.{drop_of_length-le}
-use Rattle.news_types.specs.Names.{Bytes}
+use Rattle.news_types.specs.Names.{Bytes, AreInOrder}
 use Rattle.news_types.specs.declared.entry.Act.{Act}
 use Rattle.news_types.specs.declared.entry.Act.TheVariants.{Advance, Attempt, Receipt, Halt, Ingest, Request}
 use Rattle.news_types.specs.declared.entry.Entry.{Entry}
@@ -26,8 +26,7 @@ use Rattle.entry_codec.specs.Formed.{IsEntry}
 use Rattle.entry_codec.proofs.Lengths.{entry_len}
 use Rattle.entry_codec.proofs.Appends.{then}
 use Rattle.entry_segments.specs.Segment.{placed, with_name, with_names_of, names_from, names_of, packed_fields, packed, all_packed, segment, InTime}
-use Rattle.entry_segments.specs.Order.{Ascends}
-use Rattle.entry_segments.proofs.NameOrder.{put_at, put_same, acts_ascend}
+use Rattle.entry_segments.proofs.NameOrder.{put_at, put_same, acts_ascend, none_in_order}
 use Rattle.entry_segments.specs.Packing.{names_size, has_room, fitting, IsLongest}
 
 le_from : (m n : ℕ) → nat_le m n ≡ true → m ≤ n
@@ -124,9 +123,6 @@ insert_size : (n : Bytes) (ns : List Bytes) (i : ℕ) → names_size (insert ns 
 insert_size n ns zero = let e = size_cons n ns in omega (arith, e)
 insert_size n [] (suc i) = let e = size_cons n [] in omega (arith, e)
 insert_size n (m ∷ ms) (suc i) = omega (arith, insert_size n ms i, size_cons m ms, size_cons m (insert ms i n))
-
-pub size_same : (n : Bytes) (ns : List Bytes) (i : ℕ) → Ascends ns → i < length ns → slice_cmp nat_cmp (get_or ns i []) n ≡ Equal → names_size (with_name n ns) ≡ names_size ns + 0
-size_same n ns i up lt e = let h = ap names_size (put_same n ns i up lt e) in omega (arith, h)
 
 pub size_more : (n : Bytes) (ns : List Bytes) (i : ℕ) → i ≤ length ns → AllWithin (λ m. slice_cmp nat_cmp m n ≡ Less) ns 0 i → AllWithin (λ m. slice_cmp nat_cmp m n ≡ Greater) ns i (length ns) → names_size (with_name n ns) ≡ names_size ns + (1 + length n)
 size_more n ns i le below above = ap names_size (sym (put_at n ns i le below above)) ∙ insert_size n ns i
@@ -245,7 +241,7 @@ without_tag_short : (bytes : List ℕ) → length (without_tag bytes) ≤ length
 without_tag_short [] = omega arith
 without_tag_short (b ∷ bytes) = omega arith
 
-fields_short : (e : Entry) → IsEntry e → length (packed_fields [] e.act) ≤ 2097084
+pub fields_short : (e : Entry) → IsEntry e → length (packed_fields [] e.act) ≤ 2097084
 fields_short e h =
     elim (first_fields e.act) [
       | inl is ↦ let n = entry_len e h in omega (arith, ap length is, n, without_tag_short (act e.act), length-append (u64 e.moment) (act e.act))
@@ -267,7 +263,7 @@ first_fits e h =
 
 -- ---- loops over entries
 
-at_entry : (es : List Entry) (i : ℕ) (e : Entry) → i < length es → e ≡ get_or es i e → drop i es ≡ e ∷ drop (i + 1) es
+pub at_entry : (es : List Entry) (i : ℕ) (e : Entry) → i < length es → e ≡ get_or es i e → drop i es ≡ e ∷ drop (i + 1) es
 at_entry es i e lt is = rw add-one (drop-cons es i e lt) ∙ ap (λ (z : Entry). z ∷ drop (i + 1) es) (sym is)
 
 pub in_time_at : (es : List Entry) (i : ℕ) (e : Entry) (before : ℕ) → i < length es → e ≡ get_or es i e → InTime before (drop i es) → (before ≤ e.moment) × InTime e.moment (drop (i + 1) es)
@@ -305,12 +301,12 @@ fitting_end es i size before total ns le ge so_far = let here = ap (fitting size
 pub not_first : (e : Entry) (size' : ℕ) (ns' : List Bytes) → IsEntry e → size' ≡ 14 + length (packed [] 0 e) → ns' ≡ with_names_of e.act [] → has_room size' ns' ≡ false → ⊥
 not_first e size' ns' h s n room = absurd (let first = first_fits e h in let other = ap (λ (z : ℕ). has_room z (with_names_of e.act [])) (sym s) ∙ ap (has_room size') (sym n) ∙ room in cc (first, other))
 
-ascend_from : (es : List Entry) (ns : List Bytes) → Ascends ns → Ascends (names_from ns es)
+ascend_from : (es : List Entry) (ns : List Bytes) → AreInOrder ns → AreInOrder (names_from ns es)
 ascend_from [] ns up = up
 ascend_from (e ∷ es) ns up = ascend_from es (with_names_of e.act ns) (acts_ascend e.act ns up)
 
-pub names_of_ascend : (es : List Entry) → Ascends (names_of es)
-names_of_ascend es = ascend_from es [] tt
+pub names_of_ascend : (es : List Entry) → AreInOrder (names_of es)
+names_of_ascend es = ascend_from es [] (none_in_order [] refl)
 
 -- ---- an act's own bytes
 
@@ -321,9 +317,6 @@ act_is (Receipt _ _) = refl
 act_is Halt = refl
 act_is (Ingest _ _) = refl
 act_is (Request _ _ _) = refl
-
-pub packed_short : (before : ℕ) (e : Entry) → IsEntry e → length (packed [] before e) ≤ 2097152
-packed_short before e h = omega (arith, fields_short e h, varint_short (e.moment - before), length-append (varint_bytes (e.moment - before)) (byte (act_tag e.act) ++ packed_fields [] e.act))
 
 pub segment_written : (start b c d : List ℕ) (base t : ℕ) (ns ms : List Bytes) (front : List Entry) → start ≡ [] → b ≡ start ++ (u64 base ++ u32 t) → c ≡ b ++ list name ns → d ≡ c ++ all_packed ms 0 front → ms ≡ ns → ns ≡ names_of front → t ≡ length front → d ≡ segment base front
 segment_written start b c d base t ns ms front none first third fourth same names count =

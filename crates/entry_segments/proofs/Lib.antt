@@ -1,4 +1,9 @@
 pub mod NameOrder
 pub mod SegmentLaws
+pub mod Fronts
+pub mod Spelled
 pub mod Loops
 pub mod Fitting
+pub mod KeptPayloads
+pub mod FittingActs
+pub mod ReadSegments

@@ -7,19 +7,25 @@ use Rattle.std.proofs.lemmas.Bool.{cases_lt}
 use Rattle.std.specs.Cmp.{first_so, second_so}
 use Rattle.std.specs.Cmp.Lexicographic.{slice_cmp, nat_list_cmp_total, texts_ties}
 use Rattle.std.specs.List.{AllByRecursion, AllWithin, insert}
-use Rattle.std.specs.List.Sorted.{IsSortedBy, IsNonDecreasingBy}
+use Rattle.std.specs.List.Sorted.{IsStrictlySortedBy, IsSortedBy, IsNonDecreasingBy}
 use Rattle.std.proofs.lemmas.List.Sorted.{searchable_from_sorted}
 use Rattle.std.proofs.Math.ListN.{drop_of_length-le}
-use Rattle.news_types.specs.Names.{Bytes, same, is_in}
+use Rattle.news_types.specs.Names.{Bytes, same, is_in, AreInOrder}
 use Rattle.news_types.proofs.Members.{same_is, same_self}
 use Rattle.news_types.specs.declared.entry.Act.{Act}
 use Rattle.news_types.specs.declared.entry.Act.TheVariants.{Advance, Attempt, Receipt, Halt, Ingest, Request}
 use Rattle.news_types.specs.declared.entry.Entry.{Entry}
 use Rattle.byte_formats.specs.Spelling.{IsName}
 use Rattle.entry_codec.specs.Formed.{IsFormedAct}
-use Rattle.entry_segments.specs.Order.{order, AllBehind, Ascends}
 use Rattle.entry_segments.specs.Segment.{placed, with_name, with_names_of, names_from, place}
 use Rattle.entry_segments.specs.Reading.{precedes, ascends}
+
+abbrev order : Bytes → Bytes → Ordering
+order = slice_cmp nat_cmp
+
+-- each of them comes behind n
+abbrev AllBehind : Bytes → List Bytes → Type 0
+AllBehind n ms = AllByRecursion (λ m. order n m ≡ Less) ms
 
 turned : (x y : Bytes) → order x y ≡ ordering_reverse (order y x)
 turned x y = nat_list_cmp_total.antisymm x y
@@ -33,7 +39,14 @@ less_is Less e = refl
 less_is Equal e = absurd cc
 less_is Greater e = absurd cc
 
-pub ascends_all : (ns : List Bytes) → ascends ns ≡ true → Ascends ns
+-- no names are in order
+pub none_in_order : (ns : List Bytes) → ns ≡ [] → AreInOrder ns
+unfolding IsStrictlySortedBy
+none_in_order [] e = tt
+none_in_order (n ∷ ns) e = absurd cc
+
+pub ascends_all : (ns : List Bytes) → ascends ns ≡ true → AreInOrder ns
+unfolding IsStrictlySortedBy
 ascends_all [] e = tt
 ascends_all (n ∷ []) e = (tt, tt)
 ascends_all (n ∷ m ∷ ms) e =
@@ -41,7 +54,8 @@ ascends_all (n ∷ m ∷ ms) e =
     let rest = ascends_all (m ∷ ms) (second_so (precedes n m) (ascends (m ∷ ms)) e) in
     ((first, behind_too n m ms first rest.0), rest)
 
-pub ascends_test : (ns : List Bytes) → Ascends ns → ascends ns ≡ true
+pub ascends_test : (ns : List Bytes) → AreInOrder ns → ascends ns ≡ true
+unfolding IsStrictlySortedBy
 ascends_test [] up = refl
 ascends_test (n ∷ []) up = refl
 ascends_test (n ∷ m ∷ ms) up = rw (up.0.0) (ascends_test (m ∷ ms) up.1)
@@ -57,12 +71,14 @@ put_behind : (x n : Bytes) (ns : List Bytes) → AllBehind x ns → order x n �
 put_behind x n [] h e = (e, tt)
 put_behind x n (m ∷ ms) h e = placed_behind (order m n) x n m ms (with_name n ms) h (put_behind x n ms h.1 e) e
 
-placed_ascends : (o : Ordering) (n m : Bytes) (ms : List Bytes) → order m n ≡ o → Ascends (m ∷ ms) → Ascends (with_name n ms) → Ascends (placed o n m ms (with_name n ms))
+placed_ascends : (o : Ordering) (n m : Bytes) (ms : List Bytes) → order m n ≡ o → AreInOrder (m ∷ ms) → AreInOrder (with_name n ms) → AreInOrder (placed o n m ms (with_name n ms))
+unfolding IsStrictlySortedBy
 placed_ascends Less n m ms e up rest = (put_behind m n ms up.0 e, rest)
 placed_ascends Equal n m ms e up rest = up
 placed_ascends Greater n m ms e up rest = let less : order n m ≡ Less = turned n m ∙ ap ordering_reverse e in ((less, behind_too n m ms less up.0), up)
 
-pub put_ascends : (n : Bytes) (ns : List Bytes) → Ascends ns → Ascends (with_name n ns)
+pub put_ascends : (n : Bytes) (ns : List Bytes) → AreInOrder ns → AreInOrder (with_name n ns)
+unfolding IsStrictlySortedBy
 put_ascends n [] up = (tt, tt)
 put_ascends n (m ∷ ms) up = placed_ascends (order m n) n m ms refl up (put_ascends n ms up.1)
 
@@ -112,7 +128,8 @@ behind_at n [] i h lt = absurd (omega (arith, lt))
 behind_at n (m ∷ ms) zero h lt = h.0
 behind_at n (m ∷ ms) (suc i) h lt = behind_at n ms i h.1 (omega (arith, lt))
 
-pub place_at : (ns : List Bytes) (i : ℕ) → Ascends ns → i < length ns → place (get_or ns i []) ns ≡ i
+pub place_at : (ns : List Bytes) (i : ℕ) → AreInOrder ns → i < length ns → place (get_or ns i []) ns ≡ i
+unfolding IsStrictlySortedBy
 place_at [] i up lt = absurd (omega (arith, lt))
 place_at (n ∷ ns) zero up lt = ap (λ (b : Bool). cond b 0 (suc (place n ns))) (same_self n)
 place_at (n ∷ ns) (suc i) up lt =
@@ -169,7 +186,7 @@ all_known (e ∷ es) ns = (known_in_more (with_names_of e.act ns) (names_from (w
 -- names, in byte order, and none twice
 pub record Listed (ns : List Bytes) : Type 0 where
   pub named : AllByRecursion IsName ns
-  pub up : Ascends ns
+  pub up : AreInOrder ns
 
 act_listed : (a : Act) (ns : List Bytes) → IsFormedAct a → Listed ns → Listed (with_names_of a ns)
 act_listed (Attempt n k) ns f h = record { named = put_named n ns f.0 h.named; up = put_ascends n ns h.up }
@@ -189,13 +206,14 @@ names_listed (e ∷ es) ns f h = names_listed es (with_names_of e.act ns) f.1 (a
 
 -- ---- where a search puts a name
 
-sorted_by : (ns : List Bytes) → Ascends ns → IsSortedBy (λ a b. is_lt (order a b)) ns
+sorted_by : (ns : List Bytes) → AreInOrder ns → IsSortedBy (λ a b. is_lt (order a b)) ns
+unfolding IsStrictlySortedBy
 sorted_by [] up k d low lt = absurd (omega (arith, lt))
 sorted_by (n ∷ []) up k d low lt = absurd (omega (arith, lt))
 sorted_by (n ∷ m ∷ ms) up zero d low lt = rw (turned m n, up.0.0) refl
 sorted_by (n ∷ m ∷ ms) up (suc k) d low lt = let e : suc k + 1 ≡ suc (k + 1) = omega arith in rw e (sorted_by (m ∷ ms) up.1 k d (omega arith) (omega (arith, lt)))
 
-pub searchable : (ns : List Bytes) (n : Bytes) → Ascends ns → IsNonDecreasingBy (λ m. ordering_index (slice_cmp nat_cmp m n)) ns
+pub searchable : (ns : List Bytes) (n : Bytes) → AreInOrder ns → IsNonDecreasingBy (λ m. ordering_index (slice_cmp nat_cmp m n)) ns
 searchable ns n up = searchable_from_sorted nat_list_cmp_total (λ m. m) ns n (sorted_by ns up)
 
 pub put_at : (n : Bytes) (ns : List Bytes) (i : ℕ) → i ≤ length ns → AllWithin (λ m. slice_cmp nat_cmp m n ≡ Less) ns 0 i → AllWithin (λ m. slice_cmp nat_cmp m n ≡ Greater) ns i (length ns) → insert ns i n ≡ with_name n ns
@@ -206,7 +224,8 @@ put_at n (m ∷ ms) (suc i) le below above =
     ap (λ z. m ∷ z) (put_at n ms i (omega (arith, le)) (λ k d low high. below (suc k) d (omega arith) (omega (arith, high))) (λ k d low high. above (suc k) d (omega (arith, low)) (omega (arith, high))))
     ∙ ap (λ (o : Ordering). placed o n m ms (with_name n ms)) (sym (below 0 [] (omega arith) (omega arith)))
 
-pub put_same : (n : Bytes) (ns : List Bytes) (i : ℕ) → Ascends ns → i < length ns → slice_cmp nat_cmp (get_or ns i []) n ≡ Equal → ns ≡ with_name n ns
+pub put_same : (n : Bytes) (ns : List Bytes) (i : ℕ) → AreInOrder ns → i < length ns → slice_cmp nat_cmp (get_or ns i []) n ≡ Equal → ns ≡ with_name n ns
+unfolding IsStrictlySortedBy
 put_same n [] i up lt e = absurd (omega (arith, lt))
 put_same n (m ∷ ms) zero up lt e = ap (λ (o : Ordering). placed o n m ms (with_name n ms)) (sym e)
 put_same n (m ∷ ms) (suc i) up lt e =
@@ -230,14 +249,14 @@ place_none n ns i below above =
       | inr high ↦ less_apart n (get_or ns k []) Greater (above k [] high lt) refl
     ])
 
-pub place_found : (n : Bytes) (ns : List Bytes) (i : ℕ) → Ascends ns → i < length ns → slice_cmp nat_cmp (get_or ns i []) n ≡ Equal → place n ns ≡ i
+pub place_found : (n : Bytes) (ns : List Bytes) (i : ℕ) → AreInOrder ns → i < length ns → slice_cmp nat_cmp (get_or ns i []) n ≡ Equal → place n ns ≡ i
 place_found n ns i up lt e =
     let is : get_or ns i [] ≡ n = same_is (get_or ns i []) n (texts_ties (get_or ns i []) n ∙ ap is_eq e) in
     ap (λ z. place z ns) (sym is) ∙ place_at ns i up lt
 
 -- ---- one entry after the other
 
-pub acts_ascend : (a : Act) (ns : List Bytes) → Ascends ns → Ascends (with_names_of a ns)
+pub acts_ascend : (a : Act) (ns : List Bytes) → AreInOrder ns → AreInOrder (with_names_of a ns)
 acts_ascend (Attempt n k) ns up = put_ascends n ns up
 acts_ascend (Receipt n k) ns up = put_ascends n ns up
 acts_ascend _ ns up = up

@@ -35,7 +35,7 @@ use Rattle.entry_segments.specs.Reading.{count_fits, count, count_at, precedes, 
 use Rattle.byte_formats.proofs.Sounds.{Sound, sound_of, linked_sound, picked_sound, checked_sound, made_sound, same_sound, steps_sound}
 use Rattle.byte_formats.proofs.Varints.{varint_sound}
 use Rattle.entry_segments.specs.Answers.{IsWhole}
-use Rattle.entry_segments.proofs.NameOrder.{Known, AllKnown, Listed, AllFormed, all_known, names_listed, ascends_all, ascends_test, place_at, place_in}
+use Rattle.entry_segments.proofs.NameOrder.{Known, AllKnown, Listed, AllFormed, all_known, names_listed, none_in_order, ascends_all, ascends_test, place_at, place_in}
 use Rattle.byte_formats.proofs.Boxed.{boxed_sound}
 
 -- ---- tests
@@ -429,7 +429,7 @@ segment_to p s h e =
     subst (λ (z : Segment). IsWhole z × (segment_bytes z ≡ parts.spell p)) c.1 (segment_fits p h is, bytes)
 
 listed_names : (es : List Entry) → AllByRecursion IsEntry es → Listed (names_of es)
-listed_names es h = names_listed es [] (formed_from es h) (record { named = tt; up = tt })
+listed_names es h = names_listed es [] (formed_from es h) (record { named = tt; up = none_in_order [] refl })
 
 segment_back : (s : Segment) → IsWhole s → (p : Head × Body) × AreParts p × (segment_of p ≡ Some s)
 segment_back s h =

@@ -5,6 +5,7 @@ ghost use Rattle.byte_formats.specs.Parts.{steps_at, boxed_at};
 ghost use Rattle.byte_formats.specs.Gives.{Gives, GivesItems, GivesAll, all_of};
 ghost use Rattle.byte_formats.specs.declared.stop.Stopped.TheVariants.{Left};
 ghost use Rattle.entry_codec.specs.Commands.{act_fields};
+ghost use Rattle.entry_codec.specs.Fits.{FitsAct};
 ghost use Rattle.entry_segments.specs.Reading.{packed, packed_at, packed_act_at, behind_tag, counted_at, moment_of};
 
 use byte_formats::{Input, Stopped};
@@ -39,7 +40,7 @@ pub fn entries(
 
 /// Reads an entry behind one of this moment.
 #[tactic(auto, unfolding(crate::specs::Reading::packed_at))]
-fn entry_behind(
+pub fn entry_behind(
     alloc: Global,
     input: &mut Input,
     names: &[Name],
@@ -48,6 +49,7 @@ fn entry_behind(
     requires { before ≤ 253402300799 }
     ensures gives { Gives result input.new (packed_at names.now before input.old) }
     ensures fits { IfOk result (λ e. e.moment ≤ 253402300799) }
+    ensures act { IfOk result (λ e. FitsAct e.act) }
 {
     let more = input.varint(LAST - before)?;
     Ok(Entry {
@@ -58,7 +60,8 @@ fn entry_behind(
 
 #[tactic(auto, unfolding(crate::specs::Reading::packed_act_at))]
 fn packed_act(alloc: Global, input: &mut Input, names: &[Name]) -> Result<Act, Stopped>
-    ensures { Gives result input.new (packed_act_at names.now input.old) }
+    ensures gives { Gives result input.new (packed_act_at names.now input.old) }
+    ensures act { IfOk result FitsAct }
 {
     let tag = input.byte(1, 7)?;
     packed_behind(alloc, input, names, tag)
@@ -68,7 +71,8 @@ fn packed_act(alloc: Global, input: &mut Input, names: &[Name]) -> Result<Act, S
 fn packed_behind(alloc: Global, input: &mut Input, names: &[Name], tag: u8) -> Result<Act, Stopped>
     requires low { 1 ≤ tag }
     requires high { tag ≤ 7 }
-    ensures { Gives result input.new ((behind_tag names.now tag).read input.old) }
+    ensures gives { Gives result input.new ((behind_tag names.now tag).read input.old) }
+    ensures act { IfOk result FitsAct }
 {
     match tag {
         2 => {
@@ -85,7 +89,8 @@ fn packed_behind(alloc: Global, input: &mut Input, names: &[Name], tag: u8) -> R
                 n,
             })
         }
-        1 | 4 => act_behind(alloc, input, tag),
+        1 => Ok(Act::Advance),
+        4 => Ok(Act::Halt),
         _ => boxed_act(alloc, input, tag),
     }
 }
@@ -109,7 +114,8 @@ fn counted(input: &mut Input, names: &[Name]) -> Result<(usize, u32), Stopped>
 fn boxed_act(alloc: Global, input: &mut Input, tag: u8) -> Result<Act, Stopped>
     requires low { 1 ≤ tag }
     requires high { tag ≤ 7 }
-    ensures { Gives result input.new (boxed_at (act_fields tag) input.old) }
+    ensures gives { Gives result input.new (boxed_at (act_fields tag) input.old) }
+    ensures act { IfOk result FitsAct }
 {
     let len = input.u32()? as usize;
     let all = input.left();
@@ -127,6 +133,7 @@ fn act_within(alloc: Global, block: &[u8], tag: u8) -> Result<Act, Stopped>
     requires high { tag ≤ 7 }
     ensures gives { GivesAll result (all_of (act_fields tag) block.now) }
     ensures within { (left : ℕ) → result ≡ Err (Left left) → left ≤ length block.now }
+    ensures act { IfOk result FitsAct }
 {
     whole_act(alloc, block, tag)
 }

@@ -3,7 +3,7 @@
 ghost use Rattle.std.specs.Prelude.{◌≡◌, List};
 ghost use Rattle.news_types.specs.declared.entry.Entry.{Entry};
 ghost use Rattle.entry_segments.specs.declared.segment.Segment.{Segment};
-ghost use Rattle.entry_segments.specs.Order.{Ascends};
+ghost use Rattle.news_types.specs.Names.{AreInOrder};
 ghost use Rattle.entry_segments.specs.Segment.{names_of};
 ghost use Rattle.entry_segments.specs.Reading.{segment_bytes};
 ghost use Rattle.entry_segments.specs.Answers.{IsWhole};
@@ -15,5 +15,5 @@ pub fn one_segment_law()
 
 /// The names of entries are in byte order, none twice.
 pub fn names_law()
-    ensures { (es : List Entry) → Ascends (names_of es) }
+    ensures { (es : List Entry) → AreInOrder (names_of es) }
 {}

@@ -1,117 +1,21 @@
 //! Packing entries.
 
-ghost use Rattle.std.specs.Prelude.{◌≡◌, ◌++◌, ◌+◌, ◌<◌, ◌≤◌, ◌^◌, ◌-◌, [], ◌∷◌, length, take, All, OnOk, IfOk};
-ghost use Rattle.news_types.specs.declared.entry.Entry.{Entry};
-ghost use Rattle.byte_formats.specs.Spelling.{u16 as u16_bytes, u32 as u32_bytes, u64 as u64_bytes};
-ghost use Rattle.byte_formats.specs.Parts.{boxed_bytes};
-ghost use Rattle.byte_formats.specs.Varint.{varint_bytes};
-ghost use Rattle.entry_codec.specs.Spelling.{act as act_bytes};
-ghost use Rattle.entry_codec.specs.Commands.{act_tag};
+ghost use Rattle.std.specs.Prelude.{◌≡◌, ◌++◌, ◌+◌, ◌<◌, ◌≤◌, ◌^◌, [], length, take, All, OnOk, IfOk};
+ghost use Rattle.news_types.specs.Names.{AreInOrder};
+ghost use Rattle.byte_formats.specs.Spelling.{u32 as u32_bytes, u64 as u64_bytes};
 ghost use Rattle.entry_codec.specs.Fits.{Fits};
-ghost use Rattle.entry_codec.specs.Formed.{IsFormedAct, IsEntry};
-ghost use Rattle.entry_segments.specs.Order.{Ascends};
-ghost use Rattle.entry_segments.specs.Segment.{place, packed, packed_fields, all_packed, segment, InTime};
-ghost use Rattle.entry_segments.specs.Packing.{names_size, has_room, fitting, IsLongest};
+ghost use Rattle.entry_segments.specs.Segment.{names_of, packed, all_packed, segment, InTime};
+ghost use Rattle.entry_segments.specs.Packing.{fitting, IsLongest};
+ghost use Rattle.entry_segments.specs.Spelled.{entry_in, entries_in, IsPayload};
 
-use crate::names::{add_names_of, grown, names_of, place_of};
+use crate::front::Front;
+use crate::payload_parts::parts_of;
+use crate::payloads::payload_of;
+use crate::told::put_told;
 use byte_formats::put_varint;
-use entry_codec::{put_act, put_names};
-use news_types::{Act, Bytes, Entry, Memory, Moment, Name};
+use entry_codec::put_names;
+use news_types::{Bytes, Entry, Memory, Moment, Name, Names};
 use std::alloc::{AllocError, Global};
-
-/// Writes an entry behind one of this moment. The act's own bytes are spelled beside it first.
-pub fn put_packed(
-    out: &mut Vec<u8>,
-    spelled: &mut Vec<u8>,
-    names: &[Name],
-    before: Moment,
-    entry: &Entry,
-) -> Result<(), AllocError>
-    requires fits { Fits entry.now }
-    requires in_time { before ≤ entry.now.moment }
-    requires few { length names.now ≤ 65535 }
-    requires up { Ascends names.now }
-    ensures bytes { OnOk result (out.new.items ≡ out.old.items ++ packed names.now before entry.now) }
-    ensures form { OnOk result (IsEntry entry.now) }
-{
-    put_varint(out, entry.moment - before)?;
-    spelled.clear();
-    put_act(spelled, &entry.act)?;
-    put_packed_act(out, spelled.as_slice(), names, &entry.act)?;
-    Ok(())
-}
-
-/// Writes an act that is spelled so.
-fn put_packed_act(
-    out: &mut Vec<u8>,
-    spelled: &[u8],
-    names: &[Name],
-    act: &Act,
-) -> Result<(), AllocError>
-    requires spelled { spelled.now ≡ act_bytes act.now }
-    requires short { length spelled.now < 2 ^ 32 }
-    requires few { length names.now ≤ 65535 }
-    requires up { Ascends names.now }
-    ensures { OnOk result (out.new.items ≡ out.old.items ++ (act_tag act.now ∷ packed_fields names.now act.now)) }
-{
-    match act {
-        Act::Advance => {
-            out.push(spelled[0])?;
-            Ok(())
-        }
-        Act::Attempt { subscriber, k } => {
-            out.push(spelled[0])?;
-            put_counted(out, names, subscriber, *k)?;
-            Ok(())
-        }
-        Act::Receipt { subscriber, n } => {
-            out.push(spelled[0])?;
-            put_counted(out, names, subscriber, *n)?;
-            Ok(())
-        }
-        Act::Halt => {
-            out.push(spelled[0])?;
-            Ok(())
-        }
-        Act::Ingest { .. } => {
-            out.push(spelled[0])?;
-            put_boxed(out, &spelled[1..])?;
-            Ok(())
-        }
-        Act::Request { .. } => {
-            out.push(spelled[0])?;
-            put_boxed(out, &spelled[1..])?;
-            Ok(())
-        }
-    }
-}
-
-/// Writes a name's place, and a number.
-fn put_counted(
-    out: &mut Vec<u8>,
-    names: &[Name],
-    name: &Name,
-    number: u32,
-) -> Result<(), AllocError>
-    requires few { length names.now ≤ 65535 }
-    requires up { Ascends names.now }
-    ensures { OnOk result (out.new.items ≡ out.old.items ++ (u16_bytes (place name.now names.now) ++ varint_bytes number)) }
-{
-    let place = place_of(names, name) as u16;
-    out.extend_from_slice(&place.to_be_bytes())?;
-    put_varint(out, u64::from(number))?;
-    Ok(())
-}
-
-/// Writes four bytes of length, and the bytes.
-fn put_boxed(out: &mut Vec<u8>, bytes: &[u8]) -> Result<(), AllocError>
-    requires { length bytes.now < 2 ^ 32 }
-    ensures { OnOk result (out.new.items ≡ out.old.items ++ boxed_bytes bytes.now) }
-{
-    out.extend_from_slice(&(bytes.len() as u32).to_be_bytes())?;
-    out.extend_from_slice(bytes)?;
-    Ok(())
-}
 
 /// A segment's bytes, and how many entries it has.
 #[derive(Drop)]
@@ -134,17 +38,66 @@ pub fn pack(alloc: Global, base: u64, entries: &[Entry]) -> Result<Packed, Memor
     ensures payload { IfOk result (λ p. p.payload ≡ segment base (take p.taken entries.now)) }
     ensures longest { IfOk result (λ p. IsLongest base entries.now p.taken) }
 {
-    let taken = fitting(alloc, entries)?;
-    let front = &entries[..taken];
-    let names = names_of(alloc, front)?;
+    let payloads = payloads_of(alloc, entries)?;
+    pack_payloads(alloc, base, payloads.as_slice())
+}
+
+/// The payloads of the entries' records.
+fn payloads_of(alloc: Global, entries: &[Entry]) -> Result<Vec<Bytes>, Memory>
+    requires { All Fits entries.now }
+    ensures each { IfOk result (λ payloads. All IsPayload payloads.items) }
+    ensures entries { IfOk result (λ payloads. entries_in payloads.items ≡ entries.now) }
+{
+    let mut payloads = Vec::new(alloc);
+    let mut spelled = Vec::new(alloc);
+    for entry in entries {
+        payloads.push(payload_of(alloc, &mut spelled, entry)?)?;
+    }
+    Ok(payloads)
+}
+
+/// The segment of the longest front of these entries that takes at most 2097152 bytes, as `pack` packs them; `base` is how
+/// many entries of the list stand before them. Each payload has to be an entry's bytes, as `encode` writes them and `decode`
+/// takes them; none is decoded here. It fails only for want of memory.
+pub fn pack_payloads(alloc: Global, base: u64, payloads: &[Bytes]) -> Result<Packed, Memory>
+    requires some { 0 < length payloads.now }
+    requires each { All IsPayload payloads.now }
+
+    // Moments do not fall.
+    requires in_time { InTime 0 (entries_in payloads.now) }
+    requires below { base + length payloads.now < 2 ^ 48 }
+    ensures payload { IfOk result (λ p. p.payload ≡ segment base (take p.taken (entries_in payloads.now))) }
+    ensures longest { IfOk result (λ p. IsLongest base (entries_in payloads.now) p.taken) }
+{
+    let Front { taken, names, .. } = fitting(alloc, payloads)?;
+    let front = &payloads[..taken];
+    let names = Names::of(names);
     let mut out = Vec::new(alloc);
     put_head(&mut out, base, taken as u32)?;
     put_names(&mut out, &names)?;
-    put_all(alloc, &mut out, names.as_slice(), front)?;
+    put_all(&mut out, names.as_slice(), front)?;
     Ok(Packed {
         payload: Bytes::of(out),
         taken,
     })
+}
+
+/// The longest front of the entries that goes into one segment.
+fn fitting(alloc: Global, payloads: &[Bytes]) -> Result<Front, Memory>
+    requires each { All IsPayload payloads.now }
+    requires in_time { InTime 0 (entries_in payloads.now) }
+    ensures taken { IfOk result (λ f. f.taken ≡ fitting 14 [] 0 (entries_in payloads.now)) }
+    ensures some { IfOk result (λ f. 0 < length payloads.now → 0 < f.taken) }
+    ensures names { IfOk result (λ f. f.names.items ≡ names_of (take f.taken (entries_in payloads.now))) }
+{
+    let mut front = Front::new(alloc);
+    for payload in payloads {
+        let entry = parts_of(payload.as_slice())?;
+        if !front.takes(entry.moment, &entry.told)? {
+            return Ok(front);
+        }
+    }
+    Ok(front)
 }
 
 /// Writes the base and the count.
@@ -157,80 +110,37 @@ fn put_head(out: &mut Vec<u8>, base: u64, count: u32) -> Result<(), AllocError>
 }
 
 /// Writes entries, of which the first one stands behind moment 0.
-fn put_all(
-    alloc: Global,
-    out: &mut Vec<u8>,
-    names: &[Name],
-    entries: &[Entry],
-) -> Result<(), AllocError>
-    requires each { All Fits entries.now }
-    requires in_time { InTime 0 entries.now }
+fn put_all(out: &mut Vec<u8>, names: &[Name], payloads: &[Bytes]) -> Result<(), Memory>
+    requires each { All IsPayload payloads.now }
+    requires in_time { InTime 0 (entries_in payloads.now) }
     requires few { length names.now ≤ 65535 }
-    requires up { Ascends names.now }
-    ensures bytes { OnOk result (out.new.items ≡ out.old.items ++ all_packed names.now 0 entries.now) }
-    ensures form { OnOk result (All IsEntry entries.now) }
+    requires up { AreInOrder names.now }
+    ensures { OnOk result (out.new.items ≡ out.old.items ++ all_packed names.now 0 (entries_in payloads.now)) }
 {
-    let mut spelled = Vec::new(alloc);
     let mut moment = 0;
-    for entry in entries {
-        put_packed(out, &mut spelled, names, moment, entry)?;
-        moment = entry.moment;
+    for payload in payloads {
+        moment = put_payload(out, names, moment, payload.as_slice())?;
     }
     Ok(())
 }
 
-/// How many of the entries go into one segment.
-fn fitting(alloc: Global, entries: &[Entry]) -> Result<usize, AllocError>
-    requires each { All Fits entries.now }
-    requires in_time { InTime 0 entries.now }
-    ensures taken { IfOk result (λ n. n ≡ fitting 14 [] 0 entries.now) }
-    ensures some { IfOk result (λ n. 0 < length entries.now → 0 < n) }
-{
-    let mut names = Vec::new(alloc);
-    let mut line = Vec::new(alloc);
-    let mut spelled = Vec::new(alloc);
-    let mut size = 14;
-    let mut named = 0;
-    let mut moment = 0;
-    for (i, entry) in entries.iter().enumerate() {
-        let more = packed_size(&mut line, &mut spelled, names.as_slice(), moment, entry)?;
-        size += more;
-        named += grown(names.as_slice(), &entry.act);
-        add_names_of(&mut names, &entry.act)?;
-        if !has_room(size, named, names.as_slice()) {
-            return Ok(i);
-        }
-        moment = entry.moment;
-    }
-    Ok(entries.len())
-}
-
-/// How many bytes an entry has behind one of this moment, whatever the names.
-fn packed_size(
-    line: &mut Vec<u8>,
-    spelled: &mut Vec<u8>,
+/// Writes an entry behind one of this moment; the answer is its moment.
+fn put_payload(
+    out: &mut Vec<u8>,
     names: &[Name],
     before: Moment,
-    entry: &Entry,
-) -> Result<usize, AllocError>
-    requires fits { Fits entry.now }
-    requires in_time { before ≤ entry.now.moment }
+    payload: &[u8],
+) -> Result<Moment, Memory>
+    requires is { IsPayload payload.now }
+    requires in_time { before ≤ (entry_in payload.now).moment }
     requires few { length names.now ≤ 65535 }
-    requires up { Ascends names.now }
-    ensures size { IfOk result (λ n. n ≡ length (packed [] before entry.now)) }
-    ensures short { IfOk result (λ n. n ≤ 2097152) }
-    ensures form { OnOk result (IsEntry entry.now) }
+    requires up { AreInOrder names.now }
+    ensures bytes { OnOk result (out.new.items ≡ out.old.items ++ packed names.now before (entry_in payload.now)) }
+    ensures moment { IfOk result (λ m. m ≡ (entry_in payload.now).moment) }
 {
-    line.clear();
-    put_packed(line, spelled, names, before, entry)?;
-    Ok(line.as_slice().len())
-}
-
-/// Whether so many bytes beside the names go into one segment, and the names' own.
-fn has_room(size: usize, named: usize, names: &[Name]) -> bool
-    requires named { named ≡ names_size names.now }
-    requires small { size + named < 2 ^ 64 }
-    ensures { result ≡ has_room size names.now }
-{
-    size + named <= 2097152 && names.len() <= 65535
+    let entry = parts_of(payload)?;
+    put_varint(out, entry.moment - before)?;
+    out.push(payload[8])?;
+    put_told(out, names, &entry.told, &payload[9..])?;
+    Ok(entry.moment)
 }

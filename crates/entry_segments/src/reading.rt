@@ -76,7 +76,7 @@ fn segment(alloc: Global, input: &mut Input) -> Result<Segment, Stopped>
 
 /// Reads how many entries there are.
 #[tactic(auto, unfolding(crate::specs::Reading::count_at))]
-fn count(input: &mut Input, base: u64) -> Result<u32, Stopped>
+pub fn count(input: &mut Input, base: u64) -> Result<u32, Stopped>
     ensures { Gives result input.new (count_at base input.old) }
 {
     let count = input.u32()?;
@@ -88,7 +88,7 @@ fn count(input: &mut Input, base: u64) -> Result<u32, Stopped>
 
 /// Reads names in byte order, none twice.
 #[tactic(auto, unfolding(crate::specs::Reading::names_at))]
-fn names(alloc: Global, input: &mut Input) -> Result<Names, Stopped>
+pub fn names(alloc: Global, input: &mut Input) -> Result<Names, Stopped>
     ensures { Gives result input.new (names_at input.old) }
 {
     let count = input.u16_upto(65535)?;

@@ -2,7 +2,7 @@
 
 ghost use Rattle.entry_segments.specs.Answers.{IsWhole};
 
-use crate::{Packed, Segment, pack, unpack};
+use crate::{Packed, Segment, pack, unpack, unpack_payloads};
 use entry_codec::CodecFault;
 use news_types::Memory;
 use std::alloc::Global;
@@ -44,6 +44,31 @@ fn packs_again(rt: HostRuntime) -> Result<(), Fail> {
     }
     assert_eq!(rt; FIRST.len(), 115);
     Ok(())
+}
+
+/// What is unpacked to payloads has the base, and of each entry its moment, its tag and its fields.
+#[test]
+fn spells_payloads(rt: HostRuntime) -> Result<(), Fail> {
+    match unpack_payloads(rt.alloc(), SECOND) {
+        Ok(read) => {
+            assert_eq!(rt; read.base, 281474976710640);
+            let payloads: [&[u8]; 7] = [
+                b"\0\0\0\0\0\0\x03\xe8\x06\x05admin\0\0\0\0\0\0\0\x01\x0c\x05alpha\0\0\x01\x03all",
+                b"\0\0\0\0\0\0\x03\xe8\x06\x05admin\0\0\0\0\0\0\0\x02\x12\0\x03\0\0\0\x04fire\0\0\0\x04Fire\0\0\0\0\0\0\0\x02en\0\0\0\0\0\0\0\x06Smoke.\0\0\0",
+                b"\0\0\0\0\0\0\x03\xe8\x02\x04beta\0\0\0\x01",
+                b"\0\0\0\0\0\0\x03\xed\x03\x04beta\0\0\0\x01",
+                b"\0\0\0\0\0\0\x04\xb0\x02\x05alpha\0\0\x01\x2c",
+                b"\0\0\0\x3a\xff\xf4\x41\x7f\x01",
+                b"\0\0\0\x3a\xff\xf4\x41\x7f\x04",
+            ];
+            assert_eq!(rt; read.payloads.len(), 7);
+            for (payload, spelled) in read.payloads.iter().zip(payloads) {
+                assert_eq!(rt; payload.as_slice(), spelled);
+            }
+            Ok(())
+        }
+        Err(_) => Err(Fail::from("no segment")),
+    }
 }
 
 /// Each part tells its fault at the first byte with which it is known, counted here from the front.
@@ -91,6 +116,10 @@ fn tells_faults(rt: HostRuntime) {
         match unpack(rt.alloc(), bytes) {
             Ok(_) => assert!(rt; false, "a segment at {bytes:?}"),
             Err(fault) => assert_eq!(rt; fault, CodecFault::At { at }, "at {bytes:?}"),
+        }
+        match unpack_payloads(rt.alloc(), bytes) {
+            Ok(_) => assert!(rt; false, "payloads at {bytes:?}"),
+            Err(fault) => assert_eq!(rt; fault, CodecFault::At { at }, "payloads at {bytes:?}"),
         }
     }
 }

@@ -1,11 +1,11 @@
-//! Reading the entries of a log that is packed.
+//! Reading the entries of a log that is packed, as their bytes.
 ghost use Rattle.std.specs.Prelude.{◌≡◌, ◌<◌, ◌≤◌, ◌-◌, ◌^◌, ℕ, length, map, All, Ok, Err, OnOk, IfOk, IfErr};
 ghost use Rattle.byte_formats.specs.Gives.{all_of};
 ghost use Rattle.entry_codec.specs.Spelling.{entry_bytes};
-ghost use Rattle.entry_codec.specs.Formed.{IsEntry};
 ghost use Rattle.entry_codec.specs.Commands.{entry};
 ghost use Rattle.entry_codec.specs.declared.fault.CodecFault.TheVariants.{At};
 ghost use Rattle.entry_segments.specs.Segment.{InTime};
+ghost use Rattle.entry_segments.specs.Spelled.{entry_in, entries_in, IsPayload};
 ghost use Rattle.news_journal.specs.Opened.{Still, payloads, places, AreFew};
 ghost use Rattle.news_pair.specs.Damage.{payloads_in, records_in};
 ghost use Rattle.news_pair.specs.Packing.{no_later, out_of_order, pack_damage, JudgedPack};
@@ -15,42 +15,45 @@ use crate::reading::read_room;
 use crate::{PackFault, PairFault};
 use entry_codec::{CodecFault, decode};
 use news_io::{Disk, Record};
-use news_types::{Entry, Moment};
-use std::alloc::Global;
+use news_types::{Bytes, Moment};
+use std::alloc::{AllocError, Global};
 
-/// The entry that these bytes are.
-fn entry_in(alloc: Global, payload: &[u8]) -> Result<Entry, CodecFault>
-    ensures found { IfOk result (λ e. IsEntry e × (payload.now ≡ entry_bytes e)) }
-    ensures read { IfOk result (λ e. all_of entry payload.now ≡ Ok e) }
+/// The moment of the entry that these bytes are.
+fn moment_in(alloc: Global, payload: &[u8]) -> Result<Moment, CodecFault>
+    ensures found { OnOk result (IsPayload payload.now) }
+    ensures read { IfOk result (λ m. all_of entry payload.now ≡ Ok (entry_in payload.now) × (m ≡ (entry_in payload.now).moment)) }
     ensures fault { (at : ℕ) → result ≡ Err (At at) → (at ≤ length payload.now) × (all_of entry payload.now ≡ Err (length payload.now - at)) }
 {
     match decode(alloc, payload) {
-        Ok(entry) => Ok(entry),
+        Ok(entry) => {
+            let moment = entry.moment;
+            drop(entry);
+            Ok(moment)
+        }
         Err(fault) => Err(fault),
     }
 }
 
-/// The entry of a record, whose moment is at least that of the one before it.
-fn read_entry(alloc: Global, kept: &Record, before: Moment) -> Result<Entry, PackFault>
+/// The moment of a record's entry, which is at least that of the one before it.
+fn read_moment(alloc: Global, kept: &Record, before: Moment) -> Result<Moment, PackFault>
     requires { kept.now.at < 2 ^ 30 }
     ensures judged { JudgedPack (no_later before (kept.now.at, kept.now.bytes)) result }
-    ensures found { IfOk result (λ e. IsEntry e × (kept.now.bytes ≡ entry_bytes e)) }
-    ensures read { IfOk result (λ e. all_of entry kept.now.bytes ≡ Ok e) }
-    ensures later { IfOk result (λ e. before ≤ e.moment) }
+    ensures found { OnOk result (IsPayload kept.now.bytes) }
+    ensures read { IfOk result (λ m. all_of entry kept.now.bytes ≡ Ok (entry_in kept.now.bytes) × (m ≡ (entry_in kept.now.bytes).moment)) }
+    ensures later { OnOk result (before ≤ (entry_in kept.now.bytes).moment) }
     ensures fault { IfErr result (λ e. IsDiskFault e → ⊥) }
     ensures full { IfErr result (λ e. IsFull e → ⊥) }
 {
     let payload = kept.bytes.as_slice();
-    match entry_in(alloc, payload) {
-        Ok(entry) => {
-            if entry.moment < before {
-                drop(entry);
+    match moment_in(alloc, payload) {
+        Ok(moment) => {
+            if moment < before {
                 return Err(PackFault::Damaged {
                     at: kept.at,
                     found: Some(1),
                 });
             }
-            Ok(entry)
+            Ok(moment)
         }
         Err(CodecFault::At { at }) => Err(PackFault::Damaged {
             at: kept.at + 5 + at,
@@ -60,24 +63,31 @@ fn read_entry(alloc: Global, kept: &Record, before: Moment) -> Result<Entry, Pac
     }
 }
 
-/// The entries of these records, whose moments do not fall.
-fn read_entries(alloc: Global, records: &[Record]) -> Result<Vec<Entry>, PackFault>
+/// Asks whether these records are entries whose moments do not fall.
+fn check_order(alloc: Global, records: &[Record]) -> Result<(), PackFault>
     requires { AreFew records.now }
     ensures judged { JudgedPack (out_of_order 0 (places records.now)) result }
-    ensures entries { IfOk result (λ es. map entry_bytes es.items ≡ payloads records.now) }
-    ensures each { IfOk result (λ es. All IsEntry es.items) }
-    ensures in_time { IfOk result (λ es. InTime 0 es.items) }
+    ensures each { OnOk result (All IsPayload (payloads records.now)) }
+    ensures in_time { OnOk result (InTime 0 (entries_in (payloads records.now))) }
     ensures fault { IfErr result (λ e. IsDiskFault e → ⊥) }
     ensures full { IfErr result (λ e. IsFull e → ⊥) }
 {
-    let mut entries = Vec::with_capacity(alloc, records.len())?;
     let mut moment = 0;
     for kept in records {
-        let entry = read_entry(alloc, kept, moment)?;
-        moment = entry.moment;
-        entries.push(entry)?;
+        moment = read_moment(alloc, kept, moment)?;
     }
-    Ok(entries)
+    Ok(())
+}
+
+/// The bytes of these records.
+fn payloads_of(alloc: Global, records: Vec<Record>) -> Result<Vec<Bytes>, AllocError>
+    ensures { IfOk result (λ bytes. bytes.items ≡ payloads records.items) }
+{
+    let mut payloads = Vec::with_capacity(alloc, records.len())?;
+    for kept in records {
+        payloads.push(kept.bytes)?;
+    }
+    Ok(payloads)
 }
 
 /// A fault that reading the log met.
@@ -92,13 +102,13 @@ fn met_in_reading(fault: PairFault) -> PackFault
     }
 }
 
-/// Reads a room's log, whose records have to be entries with moments that do not fall.
-pub fn read_log<D: Disk>(alloc: Global, disk: &mut D) -> Result<Vec<Entry>, PackFault>
+/// Reads a room's log, whose records have to be entries with moments that do not fall: their bytes.
+pub fn read_log<D: Disk>(alloc: Global, disk: &mut D) -> Result<Vec<Bytes>, PackFault>
     ensures judged { D.disk.tells disk.old → JudgedPack (pack_damage (D.disk.seen disk.old)) result }
-    ensures entries { D.disk.tells disk.old → IfOk result (λ es. map entry_bytes es.items ≡ payloads_in (records_in (D.disk.seen disk.old))) }
-    ensures each { IfOk result (λ es. All IsEntry es.items) }
-    ensures in_time { IfOk result (λ es. InTime 0 es.items) }
-    ensures few { IfOk result (λ es. length es.items < 2 ^ 30) }
+    ensures entries { D.disk.tells disk.old → IfOk result (λ ps. map entry_bytes (entries_in ps.items) ≡ payloads_in (records_in (D.disk.seen disk.old))) }
+    ensures each { IfOk result (λ ps. All IsPayload ps.items) }
+    ensures in_time { IfOk result (λ ps. InTime 0 (entries_in ps.items)) }
+    ensures few { IfOk result (λ ps. length ps.items < 2 ^ 30) }
     ensures still { Still D.disk disk.old disk.new }
     ensures full { IfErr result (λ e. IsFull e → ⊥) }
     ensures fault { IfErr result (FaultCounts (D.disk.faults disk.old) (D.disk.faults disk.new)) }
@@ -108,8 +118,11 @@ pub fn read_log<D: Disk>(alloc: Global, disk: &mut D) -> Result<Vec<Entry>, Pack
         Ok(room) => room,
         Err(fault) => return Err(met_in_reading(fault)),
     };
-    match read_entries(alloc, &room.records) {
-        Ok(entries) => Ok(entries),
+    match check_order(alloc, &room.records) {
+        Ok(()) => {
+            let payloads = payloads_of(alloc, room.records)?;
+            Ok(payloads)
+        }
         Err(fault) => Err(fault),
     }
 }

@@ -1,12 +1,12 @@
 //! The next segment of entries that are packed.
 ghost use Rattle.std.specs.Prelude.{◌≡◌, ◌<◌, ◌≤◌, ◌+◌, ◌-◌, ◌^◌, length, take, drop, All, IfOk};
 ghost use Rattle.news_io.specs.Keeper.{framed};
-ghost use Rattle.entry_codec.specs.Formed.{IsEntry};
 ghost use Rattle.entry_segments.specs.Segment.{InTime, segment};
 ghost use Rattle.entry_segments.specs.Packing.{IsLongest};
+ghost use Rattle.entry_segments.specs.Spelled.{entries_in, IsPayload};
 
-use entry_segments::pack;
-use news_types::{Entry, Memory};
+use entry_segments::pack_payloads;
+use news_types::{Bytes, Memory};
 use std::alloc::{AllocError, Global};
 
 /// A segment as a record.
@@ -30,15 +30,15 @@ fn frame(alloc: Global, payload: &[u8]) -> Result<Vec<u8>, AllocError>
 }
 
 /// The segment of the longest front of these entries that goes into one; `base` is how many entries of the list stand before them.
-pub fn next_segment(alloc: Global, base: u64, entries: &[Entry]) -> Result<Next, Memory>
-    requires some { 0 < length entries.now }
-    requires each { All IsEntry entries.now }
-    requires in_time { InTime 0 entries.now }
-    requires below { base + length entries.now < 2 ^ 48 }
-    ensures longest { IfOk result (λ next. IsLongest base entries.now next.taken) }
-    ensures framed { IfOk result (λ next. next.framed.items ≡ framed (segment base (take next.taken entries.now))) }
+pub fn next_segment(alloc: Global, base: u64, payloads: &[Bytes]) -> Result<Next, Memory>
+    requires some { 0 < length payloads.now }
+    requires each { All IsPayload payloads.now }
+    requires in_time { InTime 0 (entries_in payloads.now) }
+    requires below { base + length payloads.now < 2 ^ 48 }
+    ensures longest { IfOk result (λ next. IsLongest base (entries_in payloads.now) next.taken) }
+    ensures framed { IfOk result (λ next. next.framed.items ≡ framed (segment base (take next.taken (entries_in payloads.now)))) }
 {
-    let packed = pack(alloc, base, entries)?;
+    let packed = pack_payloads(alloc, base, payloads)?;
     let framed = frame(alloc, packed.payload.as_slice())?;
     Ok(Next {
         framed,
@@ -47,11 +47,11 @@ pub fn next_segment(alloc: Global, base: u64, entries: &[Entry]) -> Result<Next,
 }
 
 /// What stands behind the first so many entries.
-pub fn behind(entries: &[Entry], count: usize) -> &[Entry]
-    ensures behind { result.now ≡ drop count entries.now }
-    ensures count { length result.now ≡ length entries.now - count }
-    ensures each { All IsEntry entries.now → All IsEntry result.now }
-    ensures in_time { InTime 0 entries.now → InTime 0 result.now }
+pub fn behind(payloads: &[Bytes], count: usize) -> &[Bytes]
+    ensures behind { entries_in result.now ≡ drop count (entries_in payloads.now) }
+    ensures count { length result.now ≡ length payloads.now - count }
+    ensures each { All IsPayload payloads.now → All IsPayload result.now }
+    ensures in_time { InTime 0 (entries_in payloads.now) → InTime 0 (entries_in result.now) }
 {
-    &entries[count.min(entries.len())..]
+    &payloads[count.min(payloads.len())..]
 }

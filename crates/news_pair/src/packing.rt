@@ -6,8 +6,8 @@ ghost use Rattle.news_types.specs.Names.{Bytes};
 ghost use Rattle.news_journal.specs.Stands.{list_of};
 ghost use Rattle.news_pair.specs.Segments.{segment_in};
 ghost use Rattle.entry_codec.specs.Spelling.{entry_bytes};
-ghost use Rattle.entry_codec.specs.Formed.{IsEntry};
 ghost use Rattle.entry_segments.specs.Segment.{InTime};
+ghost use Rattle.entry_segments.specs.Spelled.{entries_in, IsPayload};
 ghost use Rattle.news_pair.specs.Stands.{log_disk, side_disk, Pairs, LogStays, SideStays};
 ghost use Rattle.news_pair.specs.Keeper.{pair_of};
 ghost use Rattle.news_pair.specs.Steps.{Stays};
@@ -23,7 +23,7 @@ use crate::side_making::{create_side, side_header};
 use crate::{PackFault, Pair};
 use news_io::{Disk, Keeper};
 use news_journal::Journal;
-use news_types::Entry;
+use news_types::Bytes;
 use std::alloc::Global;
 
 impl<D: Disk> Pair<D> {
@@ -133,13 +133,13 @@ impl<D: Disk> Pair<D> {
         })
     }
 
-    /// Reads the log anew: the pair with its entries.
-    fn reread(self, alloc: Global) -> Result<(Pair<D>, Vec<Entry>), (D, D, PackFault)>
+    /// Reads the log anew: the pair with its entries, as their bytes.
+    fn reread(self, alloc: Global) -> Result<(Pair<D>, Vec<Bytes>), (D, D, PackFault)>
         requires shut { self.log.ajar ≡ false }
         ensures pairs { (h : List Bytes) → Pairs D.disk self h → IfOk result (λ r. Pairs D.disk r.0 h) }
-        ensures entries { (h : List Bytes) → Pairs D.disk self h → IfOk result (λ r. map entry_bytes r.1.items ≡ list_of D.disk r.0.log) }
-        ensures each { IfOk result (λ r. All IsEntry r.1.items) }
-        ensures in_time { IfOk result (λ r. InTime 0 r.1.items) }
+        ensures entries { (h : List Bytes) → Pairs D.disk self h → IfOk result (λ r. map entry_bytes (entries_in r.1.items) ≡ list_of D.disk r.0.log) }
+        ensures each { IfOk result (λ r. All IsPayload r.1.items) }
+        ensures in_time { IfOk result (λ r. InTime 0 (entries_in r.1.items)) }
         ensures few { IfOk result (λ r. length r.1.items < 2 ^ 30) }
         ensures whole { (h : List Bytes) → Pairs D.disk self h → IfOk result (λ r. pack_damage (D.disk.seen (log_disk self)) ≡ None) }
         ensures damage { (h : List Bytes) → Pairs D.disk self h → IfErr result (λ e. IsPackDamage (pack_damage (D.disk.seen (log_disk self))) e.2) }
@@ -160,7 +160,7 @@ impl<D: Disk> Pair<D> {
         let gate = self.log.size() - 1;
         let mut log = self.log.into_disk();
         match read_log(alloc, &mut log) {
-            Ok(entries) => Ok((
+            Ok(payloads) => Ok((
                 Pair {
                     log: Journal::at_gate(log, head, gate),
                     side: self.side,
@@ -170,28 +170,28 @@ impl<D: Disk> Pair<D> {
                     end: self.end,
                     used: self.used,
                 },
-                entries,
+                payloads,
             )),
             Err(fault) => Err((log, self.side, fault)),
         }
     }
 
     /// Packs these entries of the log, of which there is one at least.
-    fn packed_with(self, alloc: Global, entries: &[Entry]) -> Result<Pair<D>, (D, D, PackFault)>
-        requires some { 0 < length entries.now }
-        requires each { All IsEntry entries.now }
-        requires in_time { InTime 0 entries.now }
-        requires few { length entries.now < 2 ^ 30 }
-        ensures pairs { (h : List Bytes) → Pairs D.disk self h → self.log.ajar ≡ false → map entry_bytes entries.now ≡ list_of D.disk self.log → IfOk result (λ p. Pairs D.disk p h) }
-        ensures packed { (h : List Bytes) → Pairs D.disk self h → self.log.ajar ≡ false → map entry_bytes entries.now ≡ list_of D.disk self.log → IfOk result (λ p. (p.packed ≡ length h) × (p.base ≡ p.packed)) }
+    fn packed_with(self, alloc: Global, payloads: &[Bytes]) -> Result<Pair<D>, (D, D, PackFault)>
+        requires some { 0 < length payloads.now }
+        requires each { All IsPayload payloads.now }
+        requires in_time { InTime 0 (entries_in payloads.now) }
+        requires few { length payloads.now < 2 ^ 30 }
+        ensures pairs { (h : List Bytes) → Pairs D.disk self h → self.log.ajar ≡ false → map entry_bytes (entries_in payloads.now) ≡ list_of D.disk self.log → IfOk result (λ p. Pairs D.disk p h) }
+        ensures packed { (h : List Bytes) → Pairs D.disk self h → self.log.ajar ≡ false → map entry_bytes (entries_in payloads.now) ≡ list_of D.disk self.log → IfOk result (λ p. (p.packed ≡ length h) × (p.base ≡ p.packed)) }
         // At each moment of the call the pair opens to the same list.
-        ensures crash { (h : List Bytes) → Pairs D.disk self h → self.log.ajar ≡ false → map entry_bytes entries.now ≡ list_of D.disk self.log
+        ensures crash { (h : List Bytes) → Pairs D.disk self h → self.log.ajar ≡ false → map entry_bytes (entries_in payloads.now) ≡ list_of D.disk self.log
             → IfOk result (λ p. Stays D.disk self.store h (log_disk self) (side_disk self) (log_disk p) (side_disk p)) }
-        ensures crash_err { (h : List Bytes) → Pairs D.disk self h → self.log.ajar ≡ false → map entry_bytes entries.now ≡ list_of D.disk self.log
+        ensures crash_err { (h : List Bytes) → Pairs D.disk self h → self.log.ajar ≡ false → map entry_bytes (entries_in payloads.now) ≡ list_of D.disk self.log
             → IfErr result (λ e. Stays D.disk self.store h (log_disk self) (side_disk self) e.0 e.1) }
-        ensures filled { (h : List Bytes) → Pairs D.disk self h → self.log.ajar ≡ false → map entry_bytes entries.now ≡ list_of D.disk self.log
+        ensures filled { (h : List Bytes) → Pairs D.disk self h → self.log.ajar ≡ false → map entry_bytes (entries_in payloads.now) ≡ list_of D.disk self.log
             → IfOk result (λ p. Filled (first_gate self.end) self.packed (drop self.packed h) None) }
-        ensures full { (h : List Bytes) → Pairs D.disk self h → self.log.ajar ≡ false → map entry_bytes entries.now ≡ list_of D.disk self.log
+        ensures full { (h : List Bytes) → Pairs D.disk self h → self.log.ajar ≡ false → map entry_bytes (entries_in payloads.now) ≡ list_of D.disk self.log
             → IfErr result (λ e. IsFullExactly (first_gate self.end) self.packed (drop self.packed h) e.2) }
         ensures whole { IfErr result (λ e. IsDamage e.2 → ⊥) }
         ensures shut { self.log.ajar ≡ false → IfOk result (λ p. p.log.ajar ≡ false) }
@@ -206,7 +206,7 @@ impl<D: Disk> Pair<D> {
             Err(failed) => return Err(failed),
         };
         // Entries that the side has too need no second writing.
-        let pair = match pair.filled(alloc, behind(entries, both)) {
+        let pair = match pair.filled(alloc, behind(payloads, both)) {
             Ok(pair) => pair,
             Err(failed) => return Err(failed),
         };
@@ -240,15 +240,15 @@ impl<D: Disk> Pair<D> {
         ensures calm { IfOk result (λ r. (pair_of D.disk).faults r.0 ≡ (pair_of D.disk).faults self) }
         ensures fault { IfErr result (λ e. FaultCounts ((pair_of D.disk).faults self) (D.disk.faults e.0 + D.disk.faults e.1) e.2) }
     {
-        let (pair, entries) = match self.reread(alloc) {
+        let (pair, payloads) = match self.reread(alloc) {
             Ok(read) => read,
             Err(failed) => return Err(failed),
         };
-        if entries.is_empty() {
+        if payloads.is_empty() {
             let count = pair.packed;
             return Ok((pair, count));
         }
-        match pair.packed_with(alloc, &entries) {
+        match pair.packed_with(alloc, &payloads) {
             Ok(pair) => {
                 let count = pair.packed;
                 Ok((pair, count))

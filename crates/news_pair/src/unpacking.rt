@@ -11,7 +11,8 @@ ghost use Rattle.news_pair.specs.Unpacking.{earlier_or};
 ghost use Rattle.news_pair.specs.Faults.{IsDiskFault};
 
 use crate::PairFault;
-use crate::segments::{NoSegment, Unpacked, read_segment};
+use crate::segments::{NoSegment, read_segment};
+use entry_segments::SegmentPayloads;
 use news_io::Record;
 use news_types::Bytes;
 use std::alloc::{AllocError, Global};
@@ -43,7 +44,7 @@ fn first_misplaced(earlier: Option<u64>, gate: u64, base: u64, count: u64) -> Op
 }
 
 /// The segment of a record of the side.
-fn segment_of(alloc: Global, kept: &Record) -> Result<Unpacked, PairFault>
+fn segment_of(alloc: Global, kept: &Record) -> Result<SegmentPayloads, PairFault>
     requires { kept.now.at < 2 ^ 30 }
     ensures judged { Judged (on_side (no_segment (kept.now.at, kept.now.bytes))) result }
     ensures found { IfOk result (λ s. segment_in kept.now.bytes ≡ Some (s.base, s.payloads.items)) }

@@ -1,5 +1,5 @@
 use Rattle.std.proofs.Common.{◌∙◌, ◌+◌, sym, ap, subst, drop, List, ℕ}
-use Rattle.entry_segments.specs.Order.{Ascends}
+use Rattle.news_types.specs.Names.{AreInOrder}
 use Rattle.entry_segments.specs.Segment.{names_from}
 use Rattle.entry_segments.proofs.NameOrder.{acts_ascend, names_step}
 use Rattle.entry_segments.proofs.names.names_of.Goals as goal
@@ -13,6 +13,6 @@ loop-entry-preserved c =
     let up = c.loop-entry.invariant.up in
     let is = c.in_ok-add_names_of.ensures up in
     record {
-      up = subst Ascends (sym is) (acts_ascend e.act ns up);
+      up = subst AreInOrder (sym is) (acts_ascend e.act ns up);
       rest = ap (λ (z : List (List ℕ)). names_from z (drop (i + 1) es)) is ∙ sym (names_step es i e ns c.loop-entry-test.true c.entry-item.is) ∙ c.loop-entry.invariant.rest;
     }

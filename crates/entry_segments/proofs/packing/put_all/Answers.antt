@@ -1,26 +1,36 @@
-use Rattle.std.proofs.Common.{◌++◌, subst}
-use Rattle.std.specs.Prelude.{All}
-use Rattle.std.proofs.lemmas.List.{take_all}
-use Rattle.std.proofs.lemmas.List.Elements.{All-more}
-use Rattle.entry_codec.specs.Formed.{IsEntry}
-use Rattle.entry_segments.specs.Segment.{all_packed}
+use Rattle.std.proofs.Common.{◌<◌, ◌++◌, ◌∙◌, ap, arith, length}
+use Rattle.std.proofs.lemmas.List.{length-map}
+use Rattle.entry_segments.specs.Segment.{packed, all_packed}
+use Rattle.entry_segments.specs.Spelled.{entry_in, entries_in}
 use Rattle.entry_segments.proofs.Fitting.{in_time_at, packed_at}
+use Rattle.entry_segments.proofs.Spelled.{entry_at}
 use Rattle.entry_segments.proofs.packing.put_all.Goals as goal
 
-pub loop-entry-preserved : goal.loop-entry-preserved
-loop-entry-preserved c =
-    let es = c.args.entries.now in
-    let ns = c.args.names.now in
-    let i = c.loop-entry.entry-index in
-    let e = c.entry-item.result in
-    let before = c.loop-entry.moment in
-    let out = c.loop-entry.out.items in
-    let total = c.args.out.now.items ++ all_packed ns 0 es in
-    record {
-      bytes = packed_at ns es i e before out out c.put_packed.new.out.items total c.loop-entry-test.true c.entry-item.is c.in_ok-put_packed.ensures.bytes c.loop-entry.invariant.bytes;
-      in_time = (in_time_at es i e before c.loop-entry-test.true c.entry-item.is c.loop-entry.invariant.in_time).1;
-      form = All-more IsEntry es i e c.loop-entry-test.true c.loop-entry.invariant.form (subst IsEntry c.entry-item.is c.in_ok-put_packed.ensures.form);
-    }
+pub put_payload-requires-clause-in_time : goal.put_payload-requires-clause-in_time
+put_payload-requires-clause-in_time c =
+    let ps = c.args.payloads.now in
+    let i = c.loop-payload.payload-index in
+    let p = c.payload-item.result in
+    let lt : i < length (entries_in ps) = omega (arith, c.loop-payload-test.true, length-map ps entry_in) in
+    let at = entry_at ps i p c.loop-payload-test.true c.payload-item.is in
+    let later = (in_time_at (entries_in ps) i (entry_in p) c.loop-payload.moment lt at c.loop-payload.invariant.in_time).0 in
+    omega (arith, later, ap (λ b. (entry_in b).moment) c.as_slice.ensures)
 
-pub returns-clause-form : goal.returns-clause-form
-returns-clause-form c = subst (All IsEntry) (take_all c.loop-entry.entry-index c.args.entries.now c.loop-entry-test.false) c.loop-entry.invariant.form
+pub loop-payload-preserved : goal.loop-payload-preserved
+loop-payload-preserved c =
+    let ps = c.args.payloads.now in
+    let ns = c.args.names.now in
+    let es = entries_in ps in
+    let i = c.loop-payload.payload-index in
+    let p = c.payload-item.result in
+    let before = c.loop-payload.moment in
+    let out = c.loop-payload.out.items in
+    let lt : i < length (entries_in ps) = omega (arith, c.loop-payload-test.true, length-map ps entry_in) in
+    let at = entry_at ps i p c.loop-payload-test.true c.payload-item.is in
+    let same = c.in_ok-moment.ensures.moment ∙ ap (λ b. (entry_in b).moment) c.as_slice.ensures in
+    let wrote = c.in_ok-moment.ensures.bytes ∙ ap (λ b. out ++ packed ns before (entry_in b)) c.as_slice.ensures in
+    let total = c.args.out.now.items ++ all_packed ns 0 es in
+    rw same (record {
+      bytes = packed_at ns es i (entry_in p) before out out c.put_payload.new.out.items total lt at wrote c.loop-payload.invariant.bytes;
+      in_time = (in_time_at es i (entry_in p) before lt at c.loop-payload.invariant.in_time).1;
+    })

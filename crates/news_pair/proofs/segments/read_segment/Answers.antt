@@ -11,13 +11,12 @@ use Rattle.news_pair.specs.Segments.{spelled, segment_in}
 use Rattle.news_pair.proofs.Sizes.{segment_long}
 use Rattle.news_pair.proofs.segments.read_segment.Goals as goal
 
-pub returns-in-Ok-payloads_of-clause-found : goal.returns-in-Ok-payloads_of-clause-found
+pub returns-in-Ok-clause-found : goal.returns-in-Ok-clause-found
 unfolding segment_in
-returns-in-Ok-payloads_of-clause-found c =
+returns-in-Ok-clause-found c =
     let f = c.in-Ok.ensures.found in
-    let read : all_of segment c.args.payload.now ≡ Ok c.in-Ok.segment = ap (all_of segment) f.1 ∙ all_again segment IsWhole segment_sound c.in-Ok.segment f.0 in
-    let list = c.in-Ok-payloads_of.ensures ∙ ap (map entry_bytes) c.as_slice.ensures in
-    ap spelled read ∙ ap (λ (l : List Bytes). Some (c.in-Ok.segment.base, l)) (sym list)
+    let read : all_of segment c.args.payload.now ≡ Ok f.of = ap (all_of segment) f.is ∙ all_again segment IsWhole segment_sound f.of f.whole in
+    ap spelled read ∙ ap (λ (n : ℕ). Some (n, map entry_bytes f.of.entries)) (sym f.has.base) ∙ ap (λ (l : List Bytes). Some (c.in-Ok.segment.base, l)) (sym f.has.payloads)
 
 pub returns-in-Err-At-clause-fault : goal.returns-in-Err-At-clause-fault
 returns-in-Err-At-clause-fault c = λ at e.
@@ -25,8 +24,7 @@ returns-in-Err-At-clause-fault c = λ at e.
     let same : c.in-Err-At.at ≡ at = cc in
     subst (λ (n : ℕ). (all_of segment c.args.payload.now ≡ Err (length c.args.payload.now - n)) × (n ≤ length c.args.payload.now)) same (told.place c.in-Err-At.at refl, (told.fault c.in-Err-At.at refl).within)
 
-pub returns-in-Ok-payloads_of-clause-few : goal.returns-in-Ok-payloads_of-clause-few
-returns-in-Ok-payloads_of-clause-few c =
+pub returns-in-Ok-clause-few : goal.returns-in-Ok-clause-few
+returns-in-Ok-clause-few c =
     let f = c.in-Ok.ensures.found in
-    let list = ap length (c.in-Ok-payloads_of.ensures ∙ ap (map entry_bytes) c.as_slice.ensures) in
-    omega (arith, list, length-map c.in-Ok.segment.entries entry_bytes, segment_long c.in-Ok.segment.base c.in-Ok.segment.entries, ap length f.1)
+    omega (arith, ap length f.has.payloads, length-map f.of.entries entry_bytes, segment_long f.of.base f.of.entries, ap length f.is)

@@ -1,6 +1,8 @@
 use Rattle.std.proofs.Common.{rules, ◌≡◌, ◌∙◌, ap, sym, refl, arith, length, map}
-use Rattle.std.proofs.lemmas.List.{drop_all}
+use Rattle.std.proofs.lemmas.List.{drop_all, length-map}
 use Rattle.entry_codec.specs.Spelling.{entry_bytes}
+use Rattle.entry_segments.specs.Spelled.{entry_in, entries_in}
+use Rattle.entry_segments.proofs.Spelled.{entries_are}
 use Rattle.news_journal.specs.Calls.{append_calls}
 use Rattle.news_pair.proofs.Chains.{stays_then}
 use Rattle.news_pair.proofs.Filled.{is_shut, not_full, no_damage, none_listed, none_lacking, all_in_side, fills_none, entries_filled, filled_as, full_as}
@@ -17,14 +19,14 @@ returns-then-is_empty-clause-count g c = λ h pairs.
     let p = c.in-Ok.read.0 in
     let one = c.in-Ok.ensures.pairs h pairs in
     let none : length c.in-Ok.read.1.items ≡ 0 = search rules in
-    (none_lacking g.D.Disk.disk p.log p.side p.store p.base p.packed p.end h one (none_listed c.in-Ok.read.1.items _ (c.in-Ok.ensures.entries h pairs) none)).0
+    (none_lacking g.D.Disk.disk p.log p.side p.store p.base p.packed p.end h one (none_listed (entries_in c.in-Ok.read.1.items) _ (c.in-Ok.ensures.entries h pairs) (length-map c.in-Ok.read.1.items entry_in ∙ none))).0
 
 pub returns-then-is_empty-clause-emptied : goal.returns-then-is_empty-clause-emptied
 returns-then-is_empty-clause-emptied g c = λ h pairs.
     let p = c.in-Ok.read.0 in
     let one = c.in-Ok.ensures.pairs h pairs in
     let none : length c.in-Ok.read.1.items ≡ 0 = search rules in
-    let nothing = none_listed c.in-Ok.read.1.items _ (c.in-Ok.ensures.entries h pairs) none in
+    let nothing = none_listed (entries_in c.in-Ok.read.1.items) _ (c.in-Ok.ensures.entries h pairs) (length-map c.in-Ok.read.1.items entry_in ∙ none) in
     record {
       log = nothing;
       side = sym (none_lacking g.D.Disk.disk p.log p.side p.store p.base p.packed p.end h one nothing).1;
@@ -35,10 +37,10 @@ returns-then-is_empty-clause-room g c = λ h pairs.
     let p = c.in-Ok.read.0 in
     let one = c.in-Ok.ensures.pairs h pairs in
     let none : length c.in-Ok.read.1.items ≡ 0 = search rules in
-    let nothing = none_listed c.in-Ok.read.1.items _ (c.in-Ok.ensures.entries h pairs) none in
+    let nothing = none_listed (entries_in c.in-Ok.read.1.items) _ (c.in-Ok.ensures.entries h pairs) (length-map c.in-Ok.read.1.items entry_in ∙ none) in
     let all = (none_lacking g.D.Disk.disk p.log p.side p.store p.base p.packed p.end h one nothing).0 in
     let left = drop_all c.args.self.packed h (omega (arith, all, c.in-Ok.ensures.packed)) in
-    entries_filled _ _ _ _ c.in-Ok.read.1.items _ _ refl refl c.in-Ok.ensures.each (c.in-Ok.ensures.entries h pairs ∙ nothing ∙ sym left) (fills_none _ _ c.in-Ok.read.1.items none)
+    entries_filled _ _ _ _ (entries_in c.in-Ok.read.1.items) _ _ refl refl (entries_are c.in-Ok.read.1.items c.in-Ok.ensures.each) (c.in-Ok.ensures.entries h pairs ∙ nothing ∙ sym left) (fills_none _ _ (entries_in c.in-Ok.read.1.items) (length-map c.in-Ok.read.1.items entry_in ∙ none))
 
 pub returns-then-is_empty-clause-quiet : goal.returns-then-is_empty-clause-quiet
 returns-then-is_empty-clause-quiet g c = ap append_calls c.in-Ok.ensures.shut
@@ -46,19 +48,19 @@ returns-then-is_empty-clause-quiet g c = ap append_calls c.in-Ok.ensures.shut
 pub returns-in-Ok-packed_with-clause-list : goal.returns-in-Ok-packed_with-clause-list
 returns-in-Ok-packed_with-clause-list g c = λ h pairs.
     let r = c.in-Ok.ensures in
-    let are = ap (map entry_bytes) c.deref.ensures.value ∙ r.entries h pairs in
+    let are = ap (λ ps. map entry_bytes (entries_in ps)) c.deref.ensures.value ∙ r.entries h pairs in
     c.in-Ok-packed_with.ensures.pairs h (r.pairs h pairs) r.shut are
 
 pub returns-in-Ok-packed_with-clause-count : goal.returns-in-Ok-packed_with-clause-count
 returns-in-Ok-packed_with-clause-count g c = λ h pairs.
     let r = c.in-Ok.ensures in
-    let are = ap (map entry_bytes) c.deref.ensures.value ∙ r.entries h pairs in
+    let are = ap (λ ps. map entry_bytes (entries_in ps)) c.deref.ensures.value ∙ r.entries h pairs in
     (c.in-Ok-packed_with.ensures.packed h (r.pairs h pairs) r.shut are).0
 
 pub returns-in-Ok-packed_with-clause-emptied : goal.returns-in-Ok-packed_with-clause-emptied
 returns-in-Ok-packed_with-clause-emptied g c = λ h pairs.
     let r = c.in-Ok.ensures in
-    let are = ap (map entry_bytes) c.deref.ensures.value ∙ r.entries h pairs in
+    let are = ap (λ ps. map entry_bytes (entries_in ps)) c.deref.ensures.value ∙ r.entries h pairs in
     let p = c.in-Ok-packed_with.pair in
     let e = c.in-Ok-packed_with.ensures in
     let n = e.packed h (r.pairs h pairs) r.shut are in
@@ -68,13 +70,13 @@ returns-in-Ok-packed_with-clause-emptied g c = λ h pairs.
 pub returns-in-Ok-packed_with-clause-crash : goal.returns-in-Ok-packed_with-clause-crash
 returns-in-Ok-packed_with-clause-crash g c = λ h pairs.
     let r = c.in-Ok.ensures in
-    let are = ap (map entry_bytes) c.deref.ensures.value ∙ r.entries h pairs in
+    let are = ap (λ ps. map entry_bytes (entries_in ps)) c.deref.ensures.value ∙ r.entries h pairs in
     stays_then g.D.Disk.disk c.args.self.store h c.in-Ok.read.0.store _ _ _ _ _ _ r.store (r.crash h pairs) (c.in-Ok-packed_with.ensures.crash h (r.pairs h pairs) r.shut are)
 
 pub returns-in-Ok-packed_with-clause-room : goal.returns-in-Ok-packed_with-clause-room
 returns-in-Ok-packed_with-clause-room g c = λ h pairs.
     let r = c.in-Ok.ensures in
-    let are = ap (map entry_bytes) c.deref.ensures.value ∙ r.entries h pairs in
+    let are = ap (λ ps. map entry_bytes (entries_in ps)) c.deref.ensures.value ∙ r.entries h pairs in
     filled_as c.args.self.end c.in-Ok.read.0.end c.args.self.packed c.in-Ok.read.0.packed h _ r.end r.packed (c.in-Ok-packed_with.ensures.filled h (r.pairs h pairs) r.shut are)
 
 pub returns-in-Ok-packed_with-clause-quiet : goal.returns-in-Ok-packed_with-clause-quiet
@@ -83,7 +85,7 @@ returns-in-Ok-packed_with-clause-quiet g c = ap append_calls (c.in-Ok-packed_wit
 pub returns-clause-crash_err : goal.returns-clause-crash_err
 returns-clause-crash_err g c = λ h pairs.
     let r = c.in-Ok.ensures in
-    let are = ap (map entry_bytes) c.deref.ensures.value ∙ r.entries h pairs in
+    let are = ap (λ ps. map entry_bytes (entries_in ps)) c.deref.ensures.value ∙ r.entries h pairs in
     stays_then g.D.Disk.disk c.args.self.store h c.in-Ok.read.0.store _ _ _ _ _ _ r.store (r.crash h pairs) (c.in-Err-packed_with.ensures.crash_err h (r.pairs h pairs) r.shut are)
 
 pub returns-clause-damage : goal.returns-clause-damage
@@ -92,5 +94,5 @@ returns-clause-damage g c = λ h pairs. no_damage _ c.in-Err-packed_with.failed.
 pub returns-clause-full : goal.returns-clause-full
 returns-clause-full g c = λ h pairs.
     let r = c.in-Ok.ensures in
-    let are = ap (map entry_bytes) c.deref.ensures.value ∙ r.entries h pairs in
+    let are = ap (λ ps. map entry_bytes (entries_in ps)) c.deref.ensures.value ∙ r.entries h pairs in
     full_as c.args.self.end c.in-Ok.read.0.end c.args.self.packed c.in-Ok.read.0.packed h c.in-Err-packed_with.failed.2 r.end r.packed (c.in-Err-packed_with.ensures.full h (r.pairs h pairs) r.shut are)
