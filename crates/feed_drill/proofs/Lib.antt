@@ -1,4 +1,5 @@
 mod Asked
+mod Readings
 mod Empty
 mod Counted
 mod Reported

@@ -3,7 +3,7 @@ use Rattle.news_io.specs.Clock.{ClockMeaning}
 use Rattle.feed_drill.specs.declared.standing.Standing.{Standing}
 
 -- it tells its readings, each of which is the moment
-abbrev pub standing : {C : Type 0} → ClockMeaning (Standing C)
+abbrev pub standing : ClockMeaning Standing
 standing = record {
   tells = λ s. Unit {0};
   ahead = λ s k. s.moment;

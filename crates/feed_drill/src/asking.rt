@@ -1,9 +1,10 @@
 //! The requests of a plan are asked.
-ghost use Rattle.std.specs.Prelude.{OnOk};
+ghost use Rattle.std.specs.Prelude.{OnOk, OnErr, length};
 ghost use Rattle.news_types.specs.Books.{Book};
 ghost use Rattle.news_room.specs.Stands.{Stands, SomeBook};
 ghost use Rattle.drill_plan.specs.Plan.{FitsPlanned};
 ghost use Rattle.feed_drill.specs.Requests.{asked, given, with_list};
+ghost use Rattle.feed_drill.specs.Readings.{IsRead, IsReadAtMost};
 
 use crate::stopped::Stopped;
 use drill_plan::{Plan, Planned};
@@ -36,7 +37,9 @@ pub(crate) fn ask_all<K: Keeper, C: Clock>(
     clock: &mut C,
 ) -> Result<(), Stopped>
     requires stands { SomeBook K.keeper room.old }
-    ensures { (b : Book) → Stands K.keeper room.old b → OnOk result (Stands K.keeper room.new (with_list (given b.list plan) b)) }
+    ensures given { (b : Book) → Stands K.keeper room.old b → OnOk result (Stands K.keeper room.new (with_list (given b.list plan) b)) }
+    ensures read { OnOk result (IsRead C.clock (length plan) clock.old clock.new) }
+    ensures stopped { OnErr result (IsReadAtMost C.clock (length plan) clock.old clock.new) }
 {
     while let Some(planned) = plan.next()? {
         clock.now();

@@ -14,7 +14,7 @@ use crate::standing::Standing;
 use crate::stopped::Stopped;
 use feed_links::MemoryLink;
 use feed_receiver::Receiver;
-use news_io::{Clock, MemoryKeeper};
+use news_io::MemoryKeeper;
 use news_room::Room;
 use news_types::{Memory, Name, Names, QueueRow};
 use publish_workers::{Drained, drain_feeds};
@@ -61,24 +61,19 @@ fn delivered(drained: Drained) -> Result<(), Stopped>
     }
 }
 
-/// Delivers all feeds over the link, until none is ready at this reading of a clock. The clock that is passed is read once for
-/// each reading that the delivery takes, and shows nothing that is used.
-pub(crate) fn deliver<C: Clock>(
+/// Delivers all feeds over the link, until none is ready at this reading of a clock.
+pub(crate) fn deliver(
     alloc: Global,
     room: &mut Room<MemoryKeeper>,
     link: &mut MemoryLink<MemoryKeeper>,
-    clock: &mut C,
     now: u64,
 ) -> Result<(), Stopped>
     requires stands { SomeBook memory_keeper room.old }
     ensures { (b : Book) (held : List Received) → Stands memory_keeper room.old b → AllHold memory_keeper link.old held
         → OnOk result (IsDelivered now b held room.new link.old link.new) }
 {
-    let mut standing = Standing {
-        moment: now,
-        watch: clock,
-    };
-    let drained = drain_feeds(alloc, room, &mut standing, link, &mut Nowhere);
+    let mut clock = Standing { moment: now };
+    let drained = drain_feeds(alloc, room, &mut clock, link, &mut Nowhere);
     delivered(drained)?;
     Ok(())
 }

@@ -34,6 +34,7 @@ use Rattle.newsdesk_cli.specs.FilesLeft.{FilesLeft}
 use Rattle.room_runs.specs.Lines.{no_frames, LONGEST_INPUT}
 use Rattle.room_reports.specs.Reports.{feed_report_at, queue_report_at, IsReport}
 use Rattle.feed_drill.specs.Drill.{Drills}
+use Rattle.feed_drill.specs.Readings.{IsReadByDrill}
 use Rattle.publish_workers.specs.LinkDrains.{IsDrained}
 use Rattle.newsdesk_cli.specs.Packing.{packed_line, Packs, PacksNot}
 use Rattle.receiver_files.specs.Log.{Gives}
@@ -197,10 +198,12 @@ module _ {D O C : Type 0} (disk : DiskMeaning D) (clock : ClockMeaning C) (sink 
     IsDrain = NotDrained ⊎ HasDrained
 
 -- a newsroom in memory was drilled with so many stories of a seed; the report that was printed is that of the drill's list, and how that ended is told
-pub record IsDrilled {O : Type 0} (sink : SinkMeaning O) (stories seed : ℕ) (o o' : O) (status : ℕ) : Type 0 where
+pub record IsDrilled {O C : Type 0} (sink : SinkMeaning O) (clock : ClockMeaning C) (stories seed : ℕ) (o o' : O) (c c' : C) (status : ℕ) : Type 0 where
   pub ended : Status
   pub drilled : O
   pub did : Drills sink stories seed o drilled ended
+  -- the clock was read as the drill went on, and no reading was used
+  pub read : IsReadByDrill clock stories seed c c' ended
   pub status_is : status ≡ number_of ended
   pub line : Told sink drilled o' (line_of ended)
 
@@ -267,8 +270,7 @@ module _ {D O S C L : Type 0} (disk : DiskMeaning D) (clock : ClockMeaning C) (s
   Does (Some Queue) = (i' ≡ i) × IsReportOf disk clock sink log log' side side' o o' c c' status queue_report_at
   Does (Some Drain) = (i' ≡ i) × IsDrain disk clock sink log log' side side' o o' c c' status link l l'
   Does (Some (Receive name)) = (c' ≡ c) × (side' ≡ side) × IsReceive disk source sink name log log' i i' o o' status
-  -- it reads the clock, and uses no reading
-  Does (Some (Drill stories seed)) = (i' ≡ i) × (log' ≡ log) × (side' ≡ side) × IsDrilled sink stories seed o o' status
+  Does (Some (Drill stories seed)) = (i' ≡ i) × (log' ≡ log) × (side' ≡ side) × IsDrilled sink clock stories seed o o' c c' status
   Does (Some (Ingest format provider)) = IsIngest disk clock source sink log log' side side' i i' o o' c c' status format provider
 
 -- the files are not refused for their bytes, and a failure is told only where the count of the disks rose

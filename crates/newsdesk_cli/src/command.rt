@@ -251,8 +251,8 @@ fn receive<S: Source, O: Sink, D: Disk>(
     (status, log, side)
 }
 
-/// Drills a newsroom in memory, and tells how that ended. The files are left alone; the clock is read as the drill goes on, and no
-/// reading is used.
+/// Drills a newsroom in memory, and tells how that ended. The files are left alone; the clock is read once for each planned
+/// request, and no reading is used.
 #[tactic(none)]
 fn drill<O: Sink, D: Disk, C: Clock>(
     alloc: Global,
@@ -263,7 +263,7 @@ fn drill<O: Sink, D: Disk, C: Clock>(
     stories: u32,
     seed: u64,
 ) -> (u8, D, D)
-    ensures drilled { IsDrilled O.sink stories seed output.old output.new result.0 }
+    ensures drilled { IsDrilled O.sink C.clock stories seed output.old output.new clock.old clock.new result.0 }
     ensures files { (result.1 ≡ log) × (result.2 ≡ side) }
 {
     let ended = run_drill(alloc, stories, seed, clock, output);

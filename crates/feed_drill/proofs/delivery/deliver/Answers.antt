@@ -3,7 +3,7 @@ use Rattle.feed_drill.proofs.Delivered.{delivered}
 use Rattle.feed_drill.proofs.delivery.deliver.Goals as goal
 
 pub returns : goal.returns
-returns g c = λ b held is holds.
+returns c = λ b held is holds.
     let e = c.drain_feeds-drained.ensures in
     let d = e.drain in
     let passes = d.5 (held, holds) in

@@ -3,9 +3,9 @@ use Rattle.feed_drill.specs.Report.{drill_report}
 use Rattle.feed_drill.proofs.Drilled.{prints_first}
 use Rattle.feed_drill.proofs.drill.run_drill.Goals as goal
 
-pub returns : goal.returns
-returns g c =
-    let d = c.in-Ok.ensures in
+pub returns-clause-drilled : goal.returns-clause-drilled
+returns-clause-drilled g c =
+    let d = c.in-Ok.ensures.report in
     let e = c.in-Err.ensures in (
       d.0,
       d.1,

@@ -5,7 +5,8 @@ pub returns-clause-drilled : goal.returns-clause-drilled
 returns-clause-drilled g c = record {
   ended = c.run_drill-ended.result;
   drilled = c.run_drill-ended.new.output;
-  did = c.run_drill-ended.ensures;
+  did = c.run_drill-ended.ensures.drilled;
+  read = c.run_drill-ended.ensures.read;
   status_is = c.tell_status-status.ensures.number;
   line = c.tell_status-status.ensures.told;
 }
