@@ -1,5 +1,5 @@
 -- The promise of names.
-use Rattle.std.proofs.Common.{◌≡◌, ℕ, zero, suc, ◌<◌, ◌≤◌, ◌&&◌, List, [], ◌∷◌, length, take, drop, Option, Some, None, Result, Ok, Err, refl, ap, arith, Bool, true, false, cond, inl, inr, ◌⊎◌}
+use Rattle.std.proofs.Common.{◌≡◌, ℕ, zero, suc, ◌<◌, ◌≤◌, ◌&&◌, List, [], ◌∷◌, length, take, drop, Option, Some, None, Result, Ok, Err, refl, ap, arith, Bool, true, false, cond, inl, inr, ◌⊎◌, sym, ◌∙◌, take-append-drop, length-take}
 use Rattle.std.specs.Prelude.{IsAscii, IsUtf8, nat_le, nat_lt}
 use Rattle.std.specs.List.{list_all}
 use Rattle.std.specs.Cmp.{first_so, second_so}
@@ -89,6 +89,13 @@ name_judged n bytes ib e lo hi =
     let s = ((letters_lawful n).takes bytes (take n bytes) (drop n bytes) ib e).0.0 in
     let len = scan_length name_step n true (take n bytes) s in
     name_from (take n bytes) (omega arith) (omega arith) (scan_letters n true (take n bytes) s)
+
+-- and what is a name is found without a fault
+pub name_scans : (n : ℕ) (bytes : List ℕ) → n ≤ length bytes → IsName (take n bytes) → scan_at name_step n true bytes ≡ Ok (take n bytes, drop n bytes)
+name_scans n bytes long name =
+    let letters = (name_parts (take n bytes) name).2 in
+    ap (scan_at name_step n true) (sym (take-append-drop n bytes))
+    ∙ (letters_lawful n).again (take n bytes) (drop n bytes) (letters_scan n true (take n bytes) (omega (arith, length-take n bytes, long)) letters, letters_bytes (take n bytes) letters)
 
 -- a name is a text
 all_small : (text : List ℕ) → list_all is_name_byte text ≡ true → IsAscii text

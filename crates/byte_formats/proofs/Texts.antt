@@ -1,5 +1,5 @@
 -- The promise of texts.
-use Rattle.std.proofs.Common.{◌≡◌, ℕ, zero, suc, ◌<◌, ◌≤◌, ◌+◌, ◌-◌, ◌/◌, ◌*◌, ◌^◌, List, [], ◌∷◌, ◌++◌, length, take, drop, Option, Some, None, Result, Ok, Err, refl, sym, ap, subst, ◌∙◌, arith, Bool, true, false, cond, inl, inr, ◌⊎◌, IsUtf8, nat_lt, if◌then◌else◌}
+use Rattle.std.proofs.Common.{◌≡◌, ℕ, zero, suc, ◌<◌, ◌≤◌, ◌+◌, ◌-◌, ◌/◌, ◌*◌, ◌^◌, List, [], ◌∷◌, ◌++◌, length, take, drop, Option, Some, None, Result, Ok, Err, refl, sym, ap, subst, ◌∙◌, arith, Bool, true, false, cond, inl, inr, ◌⊎◌, IsUtf8, nat_lt, if◌then◌else◌, take-append-drop, length-take}
 use Rattle.std.specs.Int.{w32}
 use Rattle.std.proofs.lemmas.Bool.Decides.{nat_tests}
 use Rattle.std.proofs.lemmas.Bool.{cases_lt, cases_eq, and_parts, eq-eqb, ne_eqb, le-ltb, lt-ltb}
@@ -383,3 +383,11 @@ text_lawful limit fits =
 pub text_judged : (n : ℕ) (bytes : List ℕ) → IsBytes bytes → scan_at utf8_step n start bytes ≡ Ok (take n bytes, drop n bytes) → IsUtf8 (take n bytes)
 text_judged n bytes ib e =
     scan_utf8 n (take n bytes) ((scanned_lawful utf8_step Room utf8_keeps utf8_filler n start (omega arith, omega arith, omega arith)).takes bytes (take n bytes) (drop n bytes) ib e).0.0
+
+-- and what is a text is found without a fault
+pub text_scans : (n : ℕ) (bytes : List ℕ) → n ≤ length bytes → IsUtf8 (take n bytes) → scan_at utf8_step n start bytes ≡ Ok (take n bytes, drop n bytes)
+text_scans n bytes long text =
+    let seen = utf8_scan (take n bytes) text in
+    let law = scanned_lawful utf8_step Room utf8_keeps utf8_filler n start (omega arith, omega arith, omega arith) in
+    ap (scan_at utf8_step n start) (sym (take-append-drop n bytes))
+    ∙ law.again (take n bytes) (drop n bytes) (subst (λ (k : ℕ). IsScanned utf8_step k start (take n bytes)) (omega (arith, length-take n bytes, long)) seen.0, seen.1)

@@ -12,6 +12,7 @@ ghost use Rattle.news_types.specs.Names.{is_name};
 ghost use Rattle.byte_formats.specs.declared.stop.Stopped.TheVariants.{Left};
 
 use crate::faults::{digits_fault, name_fault, utf8_fault};
+use crate::front::{name_front, text_front};
 use crate::line::{literal_fault, numeral_end, word_end};
 use crate::stop::Stopped;
 use news_types::{Name, Text};
@@ -181,29 +182,43 @@ impl<'a> Input<'a> {
         ensures { Gives result self.new (name_at self.old) }
     {
         let len = self.byte(1, 32)? as usize;
-        if let Some(left) = name_fault(len, self.rest) {
-            return Err(Stopped::Left(left));
+        match name_front(len, self.rest) {
+            Some(name) => {
+                self.rest = &self.rest[len..];
+                Ok(name)
+            }
+            None => match name_fault(len, self.rest) {
+                Some(left) => Err(Stopped::Left(left)),
+                None => unreachable!(),
+            },
         }
-        let (front, rest) = self.rest.split_at(len);
-        self.rest = rest;
-        Ok(name_of(front))
+    }
+
+    /// The characters of a text of at most so many bytes behind four bytes of length, as they stand there.
+    #[tactic(auto, unfolding(crate::specs::Fields::text_at))]
+    pub fn str(&mut self, limit: u32) -> Result<&'a str, Stopped>
+        ensures text { IfOk result (λ text. text_at limit self.old ≡ Ok (text.now, self.new)) }
+        ensures fault { IfErr result (λ stopped. Fails stopped (text_at limit self.old)) }
+    {
+        let len = self.u32_upto(limit)? as usize;
+        match text_front(len, self.rest) {
+            Some(text) => {
+                self.rest = &self.rest[len..];
+                Ok(text)
+            }
+            None => match utf8_fault(len, self.rest) {
+                Some(left) => Err(Stopped::Left(left)),
+                None => unreachable!(),
+            },
+        }
     }
 
     /// A text of at most so many bytes behind four bytes of length.
-    #[tactic(auto, unfolding(crate::specs::Fields::text_at))]
     pub fn text(&mut self, alloc: Global, limit: u32) -> Result<Text, Stopped>
         ensures { Gives result self.new (text_at limit self.old) }
     {
-        let len = self.u32_upto(limit)? as usize;
-        if let Some(left) = utf8_fault(len, self.rest) {
-            return Err(Stopped::Left(left));
-        }
-        let (front, rest) = self.rest.split_at(len);
-        self.rest = rest;
-        match str::from_utf8(front) {
-            Ok(text) => Ok(Text::copy_of(alloc, text)?),
-            Err(_) => unreachable!(),
-        }
+        let text = self.str(limit)?;
+        Ok(Text::copy_of(alloc, text)?)
     }
 
     /// A text that is not empty, of at most so many bytes behind four bytes of length. Where it is empty the last

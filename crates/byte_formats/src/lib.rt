@@ -5,6 +5,7 @@
 
 mod due;
 mod faults;
+mod front;
 mod input;
 mod law;
 mod line;
