@@ -2,12 +2,11 @@
 use Rattle.std.specs.Prelude.{◌≡◌, Result, Ok, Err}
 use Rattle.news_types.specs.declared.entry.Act.{Act}
 use Rattle.news_types.specs.declared.entry.Act.TheVariants.{Advance, Attempt, Receipt, Halt, Ingest, Request}
-use Rattle.news_types.specs.declared.entry.Entry.{Entry}
 use Rattle.entry_codec.specs.declared.fault.CodecFault.{CodecFault}
 use Rattle.entry_codec.specs.declared.fault.CodecFault.TheVariants as codec
 
--- the entry, unless memory ran out
-abbrev pub IsOrMemory : Result Entry CodecFault → Entry → Type 0
+-- this value, unless memory ran out
+abbrev pub IsOrMemory : {A : Type 0} → Result A CodecFault → A → Type 0
 IsOrMemory (Ok x) e = x ≡ e
 IsOrMemory (Err codec.Memory) e = Unit {0}
 IsOrMemory (Err (codec.At at)) e = ⊥

@@ -4,6 +4,7 @@
 mod fault;
 mod field;
 mod law;
+mod passing;
 mod read_commands;
 mod reading;
 mod small;
@@ -15,6 +16,7 @@ mod writing;
 pub use fault::CodecFault;
 pub use field::{names, put_names};
 pub use law::{one_spelling_law, record_size_law};
+pub use passing::moment_of;
 pub use reading::{act_behind, decode};
 pub use small::{SmallRecord, encode_small};
 pub use writing::{encode, put_act};

@@ -28,7 +28,7 @@ pub fn command(alloc: Global, input: &mut Input) -> Result<Command, Stopped>
 
 /// Those of users, desks, conditions and filters.
 #[tactic(auto, unfolding(crate::specs::Commands::desk_command_at))]
-fn desk_command(alloc: Global, input: &mut Input, tag: u8) -> Result<Command, Stopped>
+pub fn desk_command(alloc: Global, input: &mut Input, tag: u8) -> Result<Command, Stopped>
     ensures { Gives result input.new (desk_command_at tag input.old) }
 {
     match tag {
@@ -71,7 +71,7 @@ fn desk_command(alloc: Global, input: &mut Input, tag: u8) -> Result<Command, St
 
 /// Those of blocks, products, subscribers, schemes and providers.
 #[tactic(auto, unfolding(crate::specs::Commands::feed_command_at))]
-fn feed_command(alloc: Global, input: &mut Input, tag: u8) -> Result<Command, Stopped>
+pub fn feed_command(alloc: Global, input: &mut Input, tag: u8) -> Result<Command, Stopped>
     ensures { Gives result input.new (feed_command_at tag input.old) }
 {
     match tag {
@@ -118,7 +118,7 @@ fn feed_command(alloc: Global, input: &mut Input, tag: u8) -> Result<Command, St
 
 /// Those of items that are written and held.
 #[tactic(auto, unfolding(crate::specs::Commands::draft_command_at))]
-fn draft_command(alloc: Global, input: &mut Input, tag: u8) -> Result<Command, Stopped>
+pub fn draft_command(alloc: Global, input: &mut Input, tag: u8) -> Result<Command, Stopped>
     ensures { Gives result input.new (draft_command_at tag input.old) }
 {
     match tag {
@@ -155,7 +155,7 @@ fn draft_command(alloc: Global, input: &mut Input, tag: u8) -> Result<Command, S
 
 /// Those of items that are placed and published, and stopping.
 #[tactic(auto, unfolding(crate::specs::Commands::release_command_at))]
-fn release_command(alloc: Global, input: &mut Input, tag: u8) -> Result<Command, Stopped>
+pub fn release_command(alloc: Global, input: &mut Input, tag: u8) -> Result<Command, Stopped>
     ensures { Gives result input.new (release_command_at tag input.old) }
 {
     match tag {
@@ -196,7 +196,7 @@ fn release_command(alloc: Global, input: &mut Input, tag: u8) -> Result<Command,
 
 /// Those with a copyright, and subscribers with a lag.
 #[tactic(auto, unfolding(crate::specs::Commands::newer_command_at))]
-fn newer_command(alloc: Global, input: &mut Input, tag: u8) -> Result<Command, Stopped>
+pub fn newer_command(alloc: Global, input: &mut Input, tag: u8) -> Result<Command, Stopped>
     ensures { Gives result input.new (newer_command_at tag input.old) }
 {
     match tag {

@@ -13,7 +13,7 @@ ghost use Rattle.news_pair.specs.PackFaults.{met_in_reading, IsDiskFault, IsFull
 
 use crate::reading::read_room;
 use crate::{PackFault, PairFault};
-use entry_codec::{CodecFault, decode};
+use entry_codec::{CodecFault, moment_of};
 use news_io::{Disk, Record};
 use news_types::{Bytes, Moment};
 use std::alloc::{AllocError, Global};
@@ -24,12 +24,8 @@ fn moment_in(alloc: Global, payload: &[u8]) -> Result<Moment, CodecFault>
     ensures read { IfOk result (λ m. all_of entry payload.now ≡ Ok (entry_in payload.now) × (m ≡ (entry_in payload.now).moment)) }
     ensures fault { (at : ℕ) → result ≡ Err (At at) → (at ≤ length payload.now) × (all_of entry payload.now ≡ Err (length payload.now - at)) }
 {
-    match decode(alloc, payload) {
-        Ok(entry) => {
-            let moment = entry.moment;
-            drop(entry);
-            Ok(moment)
-        }
+    match moment_of(alloc, payload) {
+        Ok(moment) => Ok(moment),
         Err(fault) => Err(fault),
     }
 }

@@ -7,13 +7,13 @@ use Rattle.news_pair.proofs.Stops.{stops_there}
 use Rattle.news_pair.proofs.entries.moment_in.Goals as goal
 
 pub returns-in-Ok-clause-found : goal.returns-in-Ok-clause-found
-returns-in-Ok-clause-found c = let f = c.in-Ok.ensures.found in (spelled_entry c.args.payload.now c.in-Ok.entry f.0 f.1).0
+returns-in-Ok-clause-found c = let f = c.in-Ok.ensures.found in (spelled_entry c.args.payload.now f.0 f.1 f.2).0
 
 pub returns-in-Ok-clause-read : goal.returns-in-Ok-clause-read
 returns-in-Ok-clause-read c =
     let f = c.in-Ok.ensures.found in
-    let is = (spelled_entry c.args.payload.now c.in-Ok.entry f.0 f.1).1 in
-    (read_again c.args.payload.now c.in-Ok.entry f.0 f.1 ∙ ap (λ (e : Entry). Ok e) (sym is), ap (λ (e : Entry). e.moment) (sym is))
+    let is = (spelled_entry c.args.payload.now f.0 f.1 f.2).1 in
+    (read_again c.args.payload.now f.0 f.1 f.2 ∙ ap (λ (e : Entry). Ok e) (sym is), f.3 ∙ ap (λ (e : Entry). e.moment) (sym is))
 
 pub returns-in-Err-clause-fault : goal.returns-in-Err-clause-fault
 returns-in-Err-clause-fault c = λ at e.
