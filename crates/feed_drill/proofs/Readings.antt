@@ -1,5 +1,5 @@
 -- A clock that is read again and again.
-use Rattle.std.proofs.Common.{◌≡◌, ℕ, ◌+◌, ◌≤◌, List, [], ◌∷◌, length, drop, Option, Some, None, refl, sym, ap, ◌∙◌, arith, subst}
+use Rattle.std.proofs.Common.{◌≡◌, ℕ, ◌+◌, List, [], ◌∷◌, length, drop, Some, None, refl, sym, ap, ◌∙◌, arith, subst}
 use Rattle.std.specs.Prelude.{Result, Ok, Err, OnErr, slice_get}
 use Rattle.news_types.proofs.Members.{none_some}
 use Rattle.news_io.specs.Clock.{Gave, ClockMeaning}
