@@ -14,7 +14,7 @@ import tempfile
 import time
 
 FLASHES = 70_000
-RUNS = 3
+RUNS = 9
 TOP = os.path.dirname(os.path.dirname(os.path.abspath(__file__)))
 NEWSDESK = os.path.join(TOP, "newsdesk")
 STORE = "6ba7b810-9dad-11d1-80b4-00c04fd430c8"
