@@ -549,6 +549,63 @@ ENDINGS = [
 ]
 
 
+# what begins a request, and its length
+HEADS = [
+    Connection("heads: nothing at all", "Closed", Raw("")),
+    Connection("heads: an empty line and the end", "HeadFault", Raw("\r\n", bare(400))),
+    Connection("heads: a request without a caller", "Closed", Raw("GET /queue HTTP/1.1\r\n\r\n", bare(400))),
+    Connection("heads: empty lines before it, and lines that end in LF alone", "Closed", Raw("\n\r\nGET /queue HTTP/1.1\n\n", bare(400))),
+    Connection("heads: a line and the end", "HeadFault", Raw("GET /queue HTTP/1.1\r\n", bare(400))),
+    Connection("heads: a request, and behind it an empty line", "HeadFault", Raw("GET /queue HTTP/1.1\r\n\r\n\r\n", bare(400), bare(400))),
+    Connection("heads: a line without a version", "HeadFault", Raw("GET /queue\r\n\r\n", bare(400))),
+    Connection("heads: HTTP/1.0 closes", "Closed", Raw("GET /queue HTTP/1.0\r\n\r\n", bare(400))),
+    Connection("heads: Close", "Closed", Raw("GET / HTTP/1.1\r\nConnection: Close\r\n\r\n", bare(404))),
+    Connection("heads: one of two closes, with a space behind it", "Closed", Raw("GET / HTTP/1.1\r\nConnection: a\r\nCONNECTION:close \r\n\r\n", bare(404))),
+    Connection("heads: close among others", "Closed", Raw("GET / HTTP/1.1\r\nConnection: close, a\r\n\r\n", bare(404))),
+    Connection("heads: a caller, for no route", "Closed", Raw("GET / HTTP/1.1\r\nX-User: admin\r\n\r\n", bare(404))),
+    Connection("heads: a caller with a capital", "Closed", Raw("GET / HTTP/1.1\r\nx-user: Admin\r\n\r\n", bare(404))),
+    Connection("heads: a caller that is empty", "Closed", Raw("GET / HTTP/1.1\r\nX-User: \r\n\r\n", bare(404))),
+    Connection("heads: the same caller twice", "Closed", Raw("GET / HTTP/1.1\r\nX-User: a\r\nX-User: a\r\n\r\n", bare(404))),
+    Connection("heads: a target that is no UTF-8", "HeadFault", Raw(b"GET /\xff HTTP/1.1\r\n\r\n", bare(400))),
+    Connection("heads: such a target and the end", "HeadFault", Raw(b"GET /\xff", bare(400))),
+    Connection("heads: a target that is UTF-8", "Closed", Raw(b"GET /\xc3\xa9 HTTP/1.1\r\n\r\n", bare(404))),
+    Connection("bodies: a desk is added", "Closed", Raw('POST /requests HTTP/1.1\r\nHost: n\r\nX-User: admin\r\nContent-Length: 42\r\n\r\n{"number":1,"do":"add_desk","desk":"city"}', done(1))),
+    Connection("bodies: chunked", "Chunked", Raw("POST / HTTP/1.1\r\nTransfer-Encoding: chunked\r\n\r\n0\r\n\r\n", bare(501))),
+    Connection("bodies: a length that is none, and chunked", "Chunked", Raw("POST / HTTP/1.1\r\nContent-Length: x\r\nTransfer-Encoding: chunked\r\n\r\n", bare(501))),
+    Connection("bodies: a coding that is empty", "Chunked", Raw("POST / HTTP/1.1\r\nTransfer-Encoding:\r\n\r\n", bare(501))),
+    Connection("bodies: the lengths 1 and 2", "HeadFault", Raw("POST / HTTP/1.1\r\nContent-Length: 1\r\nContent-Length: 2\r\n\r\nab", bare(400))),
+    Connection("bodies: the length 2 twice", "Closed", Raw("POST / HTTP/1.1\r\nContent-Length: 2\r\ncontent-length: 2\r\n\r\nab", bare(404))),
+    Connection("bodies: the lengths 2 and 02", "HeadFault", Raw("POST / HTTP/1.1\r\nContent-Length: 2\r\nContent-Length: 02\r\n\r\nab", bare(400))),
+    Connection("bodies: the length +1", "HeadFault", Raw("POST / HTTP/1.1\r\nContent-Length: +1\r\n\r\na", bare(400))),
+    Connection("bodies: the length -1", "HeadFault", Raw("POST / HTTP/1.1\r\nContent-Length: -1\r\n\r\na", bare(400))),
+    Connection("bodies: a length without a digit", "HeadFault", Raw("POST / HTTP/1.1\r\nContent-Length:\r\n\r\n", bare(400))),
+    Connection("bodies: ten digits", "Closed", Raw("POST / HTTP/1.1\r\nContent-Length: 0000000002\r\n\r\nab", bare(404))),
+    Connection("bodies: eleven digits", "HeadFault", Raw("POST / HTTP/1.1\r\nContent-Length: 00000000002\r\n\r\nab", bare(400))),
+    Connection("bodies: the length 9999999999", "TooLarge", Raw("POST / HTTP/1.1\r\nContent-Length: 9999999999\r\n\r\n", bare(413))),
+    Connection("bodies: a byte more than a body may have", "TooLarge", Raw("POST / HTTP/1.1\r\nContent-Length: 4194305\r\n\r\n", bare(413))),
+    Connection("bodies: as many bytes as a body may have, of which two come", "HeadFault", Raw("POST / HTTP/1.1\r\nContent-Length: 4194304\r\n\r\nab", bare(400))),
+    Connection("bodies: three bytes, of which two come", "HeadFault", Raw("POST / HTTP/1.1\r\nContent-Length: 3\r\n\r\nab", bare(400))),
+    Connection("bodies: a request behind each", "Closed", Raw("POST /a HTTP/1.1\r\nContent-Length: 2\r\n\r\nabGET /queue HTTP/1.1\r\n\r\nPOST /b HTTP/1.1\r\nContent-Length: 1\r\n\r\nc", bare(404), bare(400), bare(404))),
+    Connection(
+        "each route, and what is refused",
+        "Closed",
+        get("/items/7", "admin", unknown("item")),
+        get("/queue", "admin", queue()),
+        get("/feeds/alpha/after/0", "admin", unknown("subscriber")),
+        get("/feeds/alpha/frames/4294967295", "admin", unknown("subscriber")),
+        city(),
+        Ask("POST /requests", "admin", done(2), {"by": 7, "number": 2, "do": "add_subscriber", "subscriber": "alpha", "format": "7901", "lag": 600}),
+        receipt("alpha", "admin", 3, bare(403)),
+        receipt("alpha", "alpha", 3, denied("ReceiptAhead", length=0)),
+        ingest("afp", "admin", {"uri": "u"}, unknown("provider")),
+        Ask("POST /requests", None, bare(400)),
+        Ask("POST /feeds/Alpha/receipts", "admin", bare(400)),
+        receipt("alpha", "alpha", -1, bad("n")),
+        ingest("afp", "admin", {}, fault("NoUri")),
+        ingest("afp", "admin", {"uri": "x", "type": 7}, fault("WrongType", property="type")),
+    ),
+]
+
 
 def twice(ask):
     """A request that finds no memory, and then the same again."""
@@ -579,7 +636,7 @@ STARVED = [
     )
 ]
 
-TABLE = [*WORKED, USERS, TARGETS, BODIES, STORY, TICKS, INGESTS, *FULL, *FAILS, *ENDINGS]
+TABLE = [*WORKED, USERS, TARGETS, BODIES, STORY, TICKS, INGESTS, *FULL, *FAILS, *ENDINGS, *HEADS]
 
 
 # ---- the files of the gate

@@ -61,6 +61,9 @@ class Rough(Connection):
                 return
             self.reply(count)
 
+    def complain(self, why):
+        """The server was killed within a frame."""
+
 
 class RoughReceiver(Receiver):
     def __init__(self, name, folder, port, seed, roughness):

@@ -5,7 +5,8 @@
 
 An example is a block whose first line begins with `$ `: commands, each with what it prints behind it; behind `$ cat > FILE` stands what
 the file is to hold. The blocks of a page share one folder, which is made for it and taken away. A release is compared as far as it is
-the present second, as a number or as a date with its time: it is another one each time.
+the present second, as a number or as a date with its time: it is another one each time. The first example of README.md has to be the
+session that `newsdesk --try` does, too.
 """
 import os
 import re
@@ -15,6 +16,7 @@ import tempfile
 
 TOP = os.path.dirname(os.path.dirname(os.path.abspath(__file__)))
 PAGES = ("README.md", "docs/DESK.md", "docs/OPERATING.md", "docs/SERVING.md", "docs/SUBSCRIBERS.md")
+SESSION = "examples/first_story.session"
 PRESENT = re.compile(r"\b1[7-9]\d{8}\b|\b20[2-9]\d-\d\d-\d\dT\d\d:\d\d:\d\dZ")
 
 
@@ -33,6 +35,25 @@ def blocks(text):
         yield commands
 
 
+def session_lines(commands):
+    """An example as the lines of a session: each command's words, and behind them what it is given."""
+    files, lines = {}, []
+    for command, behind in commands:
+        if command.startswith("cat > "):
+            files[command[len("cat > "):]] = behind
+        else:
+            words, _, file = command[len("./newsdesk "):].partition(" < ")
+            lines += [f"$ {words}", *files.get(file, [])]
+    return lines
+
+
+def is_the_session(text):
+    """Whether the first example of a page is the session, but for the moments that its clock shows."""
+    with open(os.path.join(TOP, SESSION), encoding="utf-8") as file:
+        session = [line for line in file.read().splitlines() if not line.startswith("@ ")]
+    return session_lines(next(blocks(text))) == session
+
+
 def plain(text):
     return PRESENT.sub("NOW", text)
 
@@ -49,6 +70,9 @@ def run(page):
     with open(os.path.join(TOP, page), encoding="utf-8") as file:
         text = file.read()
     count = wrong = 0
+    if page == "README.md" and not is_the_session(text):
+        wrong = 1
+        print(f"{page}: its first example is not {SESSION}")
     with tempfile.TemporaryDirectory() as folder:
         write_program(os.path.join(folder, "newsdesk"))
         os.symlink(os.path.join(TOP, "examples"), os.path.join(folder, "examples"))

@@ -1,14 +1,23 @@
 #!/usr/bin/env python3
-"""A receiver of one feed, in plain Python: receiver.py NAME FOLDER PORT.
+"""A receiver of one feed, in plain Python: receiver.py NAME FOLDER PORT [--listen ADDRESS] [--longest BYTES].
 
-It listens on 127.0.0.1:PORT, and keeps the payload of each frame once, in order, as the file FOLDER/K for frame K of the feed.
-A frame counts once its file stands under its own name, synced: so a stop at any moment loses nothing that was receipted, and
-what is sent again is not kept again. It takes several connections beside each other, since each worker of a server has one of its own.
+It listens on ADDRESS, 127.0.0.1 where none is given, at PORT, and keeps the payload of each frame once, in order, as the file FOLDER/K for
+frame K of the feed. A frame counts once its file stands under its own name, synced: so a stop at any moment loses nothing that was
+receipted, and what is sent again is not kept again. It takes several connections beside each other, since each worker of a server has one
+of its own. What is no frame, or has a payload of more than BYTES, ends its connection, and standard error gets a line that says why.
 """
+import argparse
 import os
+import re
+import socket
 import socketserver
 import sys
 import threading
+
+# no story within newsdesk's limits has a longer payload
+LONGEST_PAYLOAD = 4_194_240
+LONGEST_HEADING, MOST_FRAMES = 80, 4_294_967_295
+HEADING = re.compile(rb"FRAME ([a-z0-9_-]{1,32}) ([1-9][0-9]{0,9}) (0|[1-9][0-9]{0,9})\n")
 
 
 def keep(folder, k, payload):
@@ -27,17 +36,34 @@ class Connection(socketserver.StreamRequestHandler):
     def handle(self):
         """One frame after another. Each is answered with a receipt of all that is kept; where what comes is no frame, the
         connection is closed."""
-        while frame := self.read_frame():
-            self.reply(self.server.take(*frame))
+        try:
+            while frame := self.read_frame():
+                self.reply(self.server.take(*frame))
+        except OSError as error:
+            self.complain(f"{error.strerror or error}")
 
     def read_frame(self):
-        """A name, a number and a payload: `FRAME NAME K LENGTH`, a line feed, and LENGTH bytes. Nothing where it is no frame."""
-        words = self.rfile.readline(80).split()
-        if len(words) != 4 or words[0] != b"FRAME":
+        """A name, a number and a payload: `FRAME NAME K LENGTH`, a line feed, and LENGTH bytes. Nothing behind the last frame, and where
+        what comes is no frame."""
+        line = self.rfile.readline(LONGEST_HEADING)
+        if not line:
             return None
-        k, length = int(words[2]), int(words[3])
+        heading = HEADING.fullmatch(line)
+        if heading is None:
+            return self.complain(f"no frame begins with {line!r}")
+        name, k, length = heading[1], int(heading[2]), int(heading[3])
+        if k > MOST_FRAMES:
+            return self.complain(f"a feed has no frame {k}")
+        if length > self.server.longest:
+            return self.complain(f"frame {k} has {length} bytes, and at most {self.server.longest} are taken")
         payload = self.rfile.read(length)
-        return (words[1], k, payload) if len(payload) == length else None
+        if len(payload) < length:
+            return self.complain(f"the connection ended {length - len(payload)} bytes before the end of frame {k}")
+        return name, k, payload
+
+    def complain(self, why):
+        """Says what was wrong; the connection is closed then."""
+        print(f"{self.client_address[0]}:{self.client_address[1]}: {why}", file=sys.stderr, flush=True)
 
     def reply(self, count):
         self.wfile.write(b"RECEIPT %s %d\n" % (self.server.name, count))
@@ -46,10 +72,11 @@ class Connection(socketserver.StreamRequestHandler):
 class Receiver(socketserver.ThreadingTCPServer):
     allow_reuse_address = daemon_threads = True
 
-    def __init__(self, name, folder, port, connection=Connection):
-        super().__init__(("127.0.0.1", port), connection)
+    def __init__(self, name, folder, port, connection=Connection, listen="127.0.0.1", longest=LONGEST_PAYLOAD):
+        self.address_family = socket.AF_INET6 if ":" in listen else socket.AF_INET
+        super().__init__((listen, port), connection)
         os.makedirs(folder, exist_ok=True)
-        self.name, self.folder = name.encode(), folder
+        self.name, self.folder, self.longest = name.encode(), folder, longest
         self.count = sum(file.isdigit() for file in os.listdir(folder))
         self.turn = threading.Lock()
 
@@ -62,6 +89,17 @@ class Receiver(socketserver.ThreadingTCPServer):
             return self.count
 
 
-if __name__ == "__main__":
-    with Receiver(sys.argv[1], sys.argv[2], int(sys.argv[3])) as receiver:
+def main():
+    words = argparse.ArgumentParser(description="Receives the feed of NAME, and keeps its frames as files of FOLDER.")
+    words.add_argument("name", metavar="NAME")
+    words.add_argument("folder", metavar="FOLDER")
+    words.add_argument("port", metavar="PORT", type=int)
+    words.add_argument("--listen", metavar="ADDRESS", default="127.0.0.1", help="the address to listen on (%(default)s)")
+    words.add_argument("--longest", metavar="BYTES", type=int, default=LONGEST_PAYLOAD, help="the longest payload that is taken (%(default)s)")
+    given = words.parse_args()
+    with Receiver(given.name, given.folder, given.port, listen=given.listen, longest=given.longest) as receiver:
         receiver.serve_forever()
+
+
+if __name__ == "__main__":
+    main()

@@ -236,7 +236,7 @@ def try_stop(house, entries):
 
 
 def entries_of(house):
-    return json.loads(newsdesk(house.folder, ["check", "news"])[1])["entries"]
+    return json.loads(newsdesk(house.folder, ["check", "--beside", "news"])[1])["entries"]
 
 
 def main():

@@ -18,6 +18,3 @@ pub use law::fields_law;
 pub use output::{put_decimal, put_name, put_text, put_varint};
 pub use small::SmallBytes;
 pub use stop::Stopped;
-
-#[cfg(test)]
-mod tests;

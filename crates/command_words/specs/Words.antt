@@ -1,7 +1,7 @@
 -- Which words are a command of the program.
-use Rattle.std.specs.Prelude.{ℕ, Bool, true, false, not, ◌==◌, ◌&&◌, ◌||◌, nat_le, nat_lt, List, [], ◌∷◌, length, slice_index, codes, if◌then◌else◌, Option, Some, None}
+use Rattle.std.specs.Prelude.{ℕ, ◌+◌, Bool, true, false, not, ◌==◌, ◌&&◌, ◌||◌, nat_eq, nat_le, nat_lt, List, [], ◌∷◌, length, slice_index, codes, if◌then◌else◌, Option, Some, None}
 use Rattle.std.specs.Char.{is_ascii_digit}
-use Rattle.std.specs.List.{list_all}
+use Rattle.std.specs.List.{list_all, starts_with}
 use Rattle.std.specs.Str.Parse.{digits_value}
 use Rattle.std.specs.Option.{option_map}
 use Rattle.uuid.specs.Text.{parsed}
@@ -10,7 +10,12 @@ use Rattle.news_types.specs.declared.words.Format.TheVariants.{Ninjs, Text7901}
 use Rattle.news_types.specs.Names.{Bytes, same, is_name}
 use Rattle.command_words.specs.declared.words.Job.{Job}
 use Rattle.command_words.specs.declared.words.Job.TheVariants.{Init, Batch, Ingest, Feed, Queue, Drain, Receive, Drill, Check, Pack}
+use Rattle.command_words.specs.declared.options.Options.{Options}
 use Rattle.command_words.specs.declared.serving.Serving.{Serving}
+
+-- a word that begins as an option does: no store and no address
+abbrev pub is_option : Bytes → Bool
+is_option word = starts_with nat_eq word (codes "--")
 
 -- of two words
 abbrev pub short_job : Bytes → Option Job
@@ -81,7 +86,7 @@ names words name = false
 abbrev pub are_pairs : List Bytes → Bool
 are_pairs [] = true
 are_pairs (name ∷ []) = false
-are_pairs (name ∷ address ∷ pairs) = is_name name && (not (names pairs name) && are_pairs pairs)
+are_pairs (name ∷ address ∷ pairs) = is_name name && (not (is_option address) && (not (names pairs name) && are_pairs pairs))
 
 -- to push what is due to the receivers that these words name
 abbrev pub drain_job : List Bytes → Option Job
@@ -105,9 +110,34 @@ job_by verb words = None
 
 -- `init STORE UUID`, `batch STORE`, `ingest STORE FORMAT PROVIDER`, `feed STORE SUBSCRIBER AFTER`, `queue STORE`, `drain STORE` with
 -- pairs of a NAME and an ADDRESS, `receive STORE NAME`, `check STORE`, `pack STORE` and `drill N SEED`; a store and an address are any words
+-- but an option
 abbrev pub job_of : List Bytes → Option Job
-job_of (verb ∷ first ∷ words) = if same verb (codes "drain") then drain_job words else (if same verb (codes "drill") then drill_job first words else job_by verb words)
+job_of (verb ∷ first ∷ words) =
+    if is_option first then None
+    else (if same verb (codes "drain") then drain_job words
+    else (if same verb (codes "drill") then drill_job first words
+    else job_by verb words))
 job_of words = None
+
+abbrev pub no_options : Options
+no_options = record { waits = false; beside = false }
+
+-- how many words they are
+abbrev pub options_count : Options → ℕ
+options_count found = (if found.waits then 1 else 0) + (if found.beside then 1 else 0)
+
+-- the options at the front of these words, behind those that were found: each at most once
+abbrev pub options_behind : Options → List Bytes → Option Options
+options_behind found [] = Some found
+options_behind found (word ∷ words) =
+    if same word (codes "--wait") then (if found.waits then None else options_behind (record { waits = true; beside = found.beside }) words)
+    else (if same word (codes "--beside") then (if found.beside then None else options_behind (record { waits = found.waits; beside = true }) words)
+    else Some found)
+
+-- the options of a command: they stand directly behind its name
+abbrev pub options_of : List Bytes → Option Options
+options_of (verb ∷ words) = options_behind no_options words
+options_of [] = None
 
 -- what a server is to do: where it listens, how many workers push the feeds, and the names and addresses of the receivers by turns
 pub record Service : Type 0 where
@@ -129,7 +159,11 @@ abbrev pub service_by : Bytes → Option ℕ → List Bytes → Option Service
 service_by address (Some workers) receivers = if are_pairs receivers then Some (record { address = address; workers = workers; receivers = receivers }) else None
 service_by address None receivers = None
 
--- `serve STORE ADDRESS WORKERS` with pairs of a NAME and an ADDRESS; a store and an address are any words
+-- this word, a store, an address, a number of workers and these words
+abbrev pub serving_by : Bytes → Bytes → Bytes → List Bytes → Option Service
+serving_by verb address workers receivers = if same verb (codes "serve") then service_by address (workers_of (number_of workers)) receivers else None
+
+-- `serve STORE ADDRESS WORKERS` with pairs of a NAME and an ADDRESS; a store and an address are any words but an option
 abbrev pub serving_of : List Bytes → Option Service
-serving_of (verb ∷ store ∷ address ∷ workers ∷ receivers) = if same verb (codes "serve") then service_by address (workers_of (number_of workers)) receivers else None
+serving_of (verb ∷ store ∷ address ∷ workers ∷ receivers) = if is_option store || is_option address then None else serving_by verb address workers receivers
 serving_of words = None

@@ -52,6 +52,9 @@ const TAIL: &str = "newsdesk --help                         say this
 newsdesk COMMAND --help                 say the line of one command
 newsdesk --version                      say the version
 
+Options stand directly behind COMMAND: with --wait it waits for a STORE that another program has, and `check --beside STORE` reads one
+that is being served.
+
 A line of `batch` is a request, as
   {\"by\":\"admin\",\"number\":1,\"do\":\"add_subscriber\",\"subscriber\":\"alpha\",\"format\":\"ninjs\",\"products\":[\"all\"]}
   {\"by\":\"admin\",\"number\":2,\"do\":\"flash\",\"story\":{\"headline\":\"Fire\",\"body\":\"Smoke.\"}}
@@ -59,7 +62,8 @@ or a question, as
   {\"ask\":\"feed\",\"subscriber\":\"alpha\",\"after\":0}
 
 Exit status: 0 all was answered, 2 usage, 3 wrong store, 4 read fault, 5 write fault, 6 store fault,
-7 damaged log or side, 8 log or side full, 9 out of memory, 10 link fault, 11 no receipt, 12 input too long, 13 no frame. A status other than 0 and 5 is written
+7 damaged log or side, 8 log or side full, 9 out of memory, 10 link fault, 11 no receipt, 12 input too long, 13 no frame,
+15 another program has the store. A status other than 0 and 5 is written
 to the output too, as {\"status\":7} with the place of the damage.
 ";
 

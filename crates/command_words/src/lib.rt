@@ -2,11 +2,11 @@
 #![tactic(auto)]
 
 mod help;
+mod options;
 mod serving;
-#[cfg(test)]
-mod tests;
 mod words;
 
 pub use help::{command_help, help_texts, version_text};
+pub use options::{Options, read_options};
 pub use serving::{Serving, read_serving};
 pub use words::{Job, read_words};

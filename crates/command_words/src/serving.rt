@@ -2,8 +2,9 @@
 ghost use Rattle.std.specs.Prelude.{◌≡◌};
 ghost use Rattle.std.specs.Option.{option_map};
 ghost use Rattle.command_words.specs.Words.{number_of, service_of, serving_of, workers_of};
+ghost use Rattle.command_words.specs.Words as spec;
 
-use crate::words::{are_pairs, read_number};
+use crate::words::{are_pairs, is_option, read_number};
 use news_types::Text;
 
 /// The most workers of a server.
@@ -24,15 +25,30 @@ pub struct Serving<'a> {
 pub fn read_serving(words: &[Text]) -> Option<Serving<'_>>
     ensures { option_map service_of result ≡ serving_of words.now }
 {
-    let [verb, _, address, workers, receivers @ ..] = words else {
+    let [verb, store, address, workers, receivers @ ..] = words else {
         return None;
     };
-    if verb.as_str() != "serve" || !are_pairs(receivers) {
+    if is_option(store.as_str()) || is_option(address.as_str()) {
+        return None;
+    }
+    serving_by(verb.as_str(), address, workers.as_str(), receivers)
+}
+
+/// What this word, a store and these words ask a server for.
+fn serving_by<'a>(
+    verb: &str,
+    address: &'a Text,
+    workers: &str,
+    receivers: &'a [Text],
+) -> Option<Serving<'a>>
+    ensures { option_map service_of result ≡ spec.serving_by verb.now address.now workers.now receivers.now }
+{
+    if verb != "serve" || !are_pairs(receivers) {
         return None;
     }
     Some(Serving {
         address,
-        workers: read_workers(workers.as_str())?,
+        workers: read_workers(workers)?,
         receivers,
     })
 }

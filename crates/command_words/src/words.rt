@@ -46,6 +46,9 @@ pub fn read_words(words: &[Text]) -> Option<Job>
     let [verb, first, rest @ ..] = words else {
         return None;
     };
+    if is_option(first.as_str()) {
+        return None;
+    }
     if verb.as_str() == "drain" {
         return drain_job(rest);
     }
@@ -53,6 +56,13 @@ pub fn read_words(words: &[Text]) -> Option<Job>
         return drill_job(first.as_str(), rest);
     }
     job_by(verb.as_str(), rest)
+}
+
+/// Whether a word begins as an option does.
+pub(crate) fn is_option(word: &str) -> bool
+    ensures { result ≡ spec.is_option word.now }
+{
+    word.as_bytes().starts_with(b"--")
 }
 
 /// What this word, a store and up to two words more ask for.
@@ -84,8 +94,11 @@ pub(crate) fn are_pairs(words: &[Text]) -> bool
 {
     match words {
         [] => true,
-        [name, _, pairs @ ..] => {
-            Name::read(name.as_str()).is_some() && !names(pairs, name) && are_pairs(pairs)
+        [name, address, pairs @ ..] => {
+            Name::read(name.as_str()).is_some()
+                && !is_option(address.as_str())
+                && !names(pairs, name)
+                && are_pairs(pairs)
         }
         _ => false,
     }

@@ -9,8 +9,6 @@ mod judge;
 mod operands;
 mod places;
 mod table;
-#[cfg(test)]
-mod tests;
 mod verdicts;
 
 pub use change::FilterChange;

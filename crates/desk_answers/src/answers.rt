@@ -6,6 +6,7 @@ ghost use Rattle.desk_answers.specs.Seen.{seen};
 ghost use Rattle.desk_answers.specs.Members as member;
 
 use crate::denials::denial_text;
+use crate::feed::feed_text;
 use crate::object::Told;
 use crate::told::Shown;
 use crate::words;
@@ -117,35 +118,6 @@ pub fn answer_text(alloc: Global, answer: &Answer) -> Result<Bytes, Memory>
         | Answer::Publication(_)
         | Answer::NoPublication { .. }
         | Answer::Number { .. } => unreachable!(),
-    }
-}
-
-fn feed_text(
-    alloc: Global,
-    subscriber: &Name,
-    length: u32,
-    rows: &[FeedRow],
-) -> Result<Bytes, Memory>
-    ensures { IfOk result (λ bytes. bytes ≡ said.feed_bytes subscriber.now length rows.now) }
-{
-    Told::answering(alloc, "feed")?
-        .list("entries", rows)?
-        .number("length", length as u64)?
-        .text("subscriber", subscriber.as_str())?
-        .written()
-}
-
-impl Shown for FeedRow {
-    ghost members = { said.feed_row };
-
-    fn shown(&self, alloc: Global) -> Result<Told, AllocError> {
-        Told::new(alloc)
-            .number("item", self.item as u64)?
-            .number("k", self.k as u64)?
-            .text("kind", words::word_of_kind(self.kind))?
-            .number("publication", self.publication as u64)?
-            .number("release", self.release)?
-            .number("version", self.version as u64)
     }
 }
 

@@ -3,6 +3,7 @@
 
 mod answers;
 mod denials;
+mod feed;
 mod object;
 mod told;
 mod words;

@@ -16,6 +16,3 @@ mod property;
 pub use asked::Asked;
 pub use lines::{read_line, read_receipt_body, read_request_body, read_story};
 pub use property::{LineFault, LineProperty, word_of_property};
-
-#[cfg(test)]
-mod tests;

@@ -20,6 +20,3 @@ pub use response::{
 };
 pub use rights::{Gate, Right, allows, gate_of, right_of};
 pub use route::{Route, Routes};
-
-#[cfg(test)]
-mod tests;

@@ -10,8 +10,6 @@ mod places;
 mod seats;
 mod step;
 mod table;
-#[cfg(test)]
-mod tests;
 mod users;
 
 pub use change::DeskChange;

@@ -12,6 +12,3 @@ mod stories;
 
 pub use plan::Plan;
 pub use planned::Planned;
-
-#[cfg(test)]
-mod tests;

@@ -1,5 +1,5 @@
 //! What is asked for in a story.
-ghost use Rattle.std.specs.Prelude.{◌≡◌, IfOk};
+ghost use Rattle.std.specs.Prelude.{◌≡◌, [], IfOk};
 ghost use Rattle.drill_plan.specs.Stories.{story_of, steps_of, session, moment_of};
 
 use crate::named::named;
@@ -60,13 +60,20 @@ fn story_of(alloc: Global, j: u32, draw: u32) -> Result<Story, Memory>
     Ok(Story {
         kind: Media::Text,
         urgency: (draw % 8 + 1) as u8,
-        slugline: Text::copy_of(alloc, "")?,
-        headline: Text::copy_of(alloc, headline.as_str())?,
-        byline: Text::copy_of(alloc, "")?,
-        language: Text::copy_of(alloc, "")?,
-        category: Text::copy_of(alloc, "")?,
-        body: Text::copy_of(alloc, body.as_str())?,
+        slugline: empty(alloc),
+        headline: Text::of(headline),
+        byline: empty(alloc),
+        language: empty(alloc),
+        category: empty(alloc),
+        body: Text::of(body),
         html: false,
-        copyright: Text::copy_of(alloc, "")?,
+        copyright: empty(alloc),
     })
+}
+
+/// A text of no characters.
+fn empty(alloc: Global) -> Text
+    ensures { result ≡ [] }
+{
+    Text::of(String::new(alloc))
 }

@@ -20,6 +20,3 @@ pub use passing::moment_of;
 pub use reading::{act_behind, decode};
 pub use small::{SmallRecord, encode_small};
 pub use writing::{encode, put_act};
-
-#[cfg(test)]
-mod tests;

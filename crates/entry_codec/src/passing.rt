@@ -83,9 +83,7 @@ fn act(alloc: Global, input: &mut Input) -> Result<(), Stopped>
             input.name()?;
             credited_incoming(alloc, input)?;
         }
-        _ => {
-            act_behind(alloc, input, tag)?;
-        }
+        _ => drop(act_behind(alloc, input, tag)?),
     }
     Ok(())
 }
@@ -96,12 +94,8 @@ fn command(alloc: Global, input: &mut Input) -> Result<(), Stopped>
 {
     let tag = input.byte(1, 38)?;
     match tag {
-        0..=8 => {
-            desk_command(alloc, input, tag)?;
-        }
-        9..=16 => {
-            feed_command(alloc, input, tag)?;
-        }
+        0..=8 => drop(desk_command(alloc, input, tag)?),
+        9..=16 => drop(feed_command(alloc, input, tag)?),
         17..=24 => draft(alloc, input, tag)?,
         25..=32 => release(alloc, input, tag)?,
         _ => newer(alloc, input, tag)?,
@@ -128,9 +122,7 @@ fn draft(alloc: Global, input: &mut Input, tag: u8) -> Result<(), Stopped>
             input.name()?;
             story(input)?;
         }
-        _ => {
-            draft_command(alloc, input, tag)?;
-        }
+        _ => drop(draft_command(alloc, input, tag)?),
     }
     Ok(())
 }
@@ -146,9 +138,7 @@ fn release(alloc: Global, input: &mut Input, tag: u8) -> Result<(), Stopped>
             input.name()?;
             story(input)?;
         }
-        _ => {
-            release_command(alloc, input, tag)?;
-        }
+        _ => drop(release_command(alloc, input, tag)?),
     }
     Ok(())
 }
@@ -172,9 +162,7 @@ fn newer(alloc: Global, input: &mut Input, tag: u8) -> Result<(), Stopped>
             input.name()?;
             credited(alloc, input)?;
         }
-        _ => {
-            newer_command(alloc, input, tag)?;
-        }
+        _ => drop(newer_command(alloc, input, tag)?),
     }
     Ok(())
 }

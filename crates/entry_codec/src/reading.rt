@@ -48,6 +48,7 @@ fn all(alloc: Global, payload: &[u8]) -> Result<Entry, Stopped>
     let entry = whole_entry(alloc, &mut input)?;
     let left = input.left();
     if left != 0 {
+        drop(entry);
         return Err(Stopped::Left(left));
     }
     Ok(entry)

@@ -1,8 +1,8 @@
 //! Writing commands, eight at a time.
 
 ghost use Rattle.std.specs.Prelude.{◌≡◌, ◌<◌, ◌≤◌, ◌++◌, length, All, OnOk};
-ghost use Rattle.byte_formats.specs.Spelling.{IsName, name, list};
-ghost use Rattle.entry_codec.specs.Spelling.{command as command_bytes, with_lag, by_given, with_given};
+ghost use Rattle.byte_formats.specs.Spelling.{◌&◌, IsName, IsOption, byte, name, u16, u32, list, option};
+ghost use Rattle.entry_codec.specs.Spelling.{command as command_bytes, how_number, with_lag, by_given, with_given};
 ghost use Rattle.news_types.specs.FitsCommands.{FitsCommand};
 ghost use Rattle.entry_codec.specs.Formed.{IsFormedCommand};
 ghost use Rattle.entry_codec.specs.Commands.{place_of};
@@ -11,7 +11,7 @@ use crate::field::{put_byte, put_flag, put_list, put_names, put_option, put_u32}
 use crate::story::{credit_tag, put_story};
 use crate::words::{feed_format_byte, field_byte, how_byte, op_byte};
 use byte_formats::{put_name, put_text};
-use news_types::{Command, Names};
+use news_types::{Command, How, Name, Names};
 use std::alloc::AllocError;
 
 /// Writes a command: its tag, and its fields.
@@ -23,35 +23,17 @@ pub fn put_command(out: &mut Vec<u8>, command: &Command) -> Result<(), AllocErro
     ensures form { OnOk result (IsFormedCommand command.now) }
 {
     match command {
-        Command::AddUser { user, privileges } => {
-            put_byte(out, 1)?;
-            put_name(out, user)?;
-            out.extend_from_slice(&privileges.bits.to_be_bytes())?;
-            Ok(())
-        }
-        Command::SetUser { user, privileges } => {
-            put_byte(out, 2)?;
-            put_name(out, user)?;
-            out.extend_from_slice(&privileges.bits.to_be_bytes())?;
-            Ok(())
-        }
-        Command::AddDesk { desk } => {
-            put_byte(out, 3)?;
-            put_name(out, desk)?;
-            Ok(())
-        }
+        Command::AddUser { user, privileges } => put_user(out, 1, user, privileges.bits),
+        Command::SetUser { user, privileges } => put_user(out, 2, user, privileges.bits),
+        Command::AddDesk { desk } => put_named(out, 3, desk),
         Command::AddStage { desk, stage } => {
-            put_byte(out, 4)?;
-            put_name(out, desk)?;
-            put_name(out, stage)?;
-            Ok(())
+            put_named(out, 4, desk)?;
+            put_name(out, stage)
         }
         Command::SetMember { desk, user, member } => {
-            put_byte(out, 5)?;
-            put_name(out, desk)?;
+            put_named(out, 5, desk)?;
             put_name(out, user)?;
-            put_flag(out, *member)?;
-            Ok(())
+            put_flag(out, *member)
         }
         Command::AddCondition {
             condition,
@@ -91,33 +73,19 @@ fn put_feed_command(out: &mut Vec<u8>, command: &Command) -> Result<(), AllocErr
 {
     match command {
         Command::SetBlock { filter, on } => {
-            put_byte(out, 9)?;
-            put_name(out, filter)?;
-            put_flag(out, *on)?;
-            Ok(())
+            put_named(out, 9, filter)?;
+            put_flag(out, *on)
         }
         Command::AddProduct {
             product,
             how,
             filter,
-        } => {
-            put_byte(out, 10)?;
-            put_name(out, product)?;
-            put_byte(out, how_byte(*how))?;
-            put_option(out, filter)?;
-            Ok(())
-        }
+        } => put_product(out, 10, product, *how, filter),
         Command::SetProduct {
             product,
             how,
             filter,
-        } => {
-            put_byte(out, 11)?;
-            put_name(out, product)?;
-            put_byte(out, how_byte(*how))?;
-            put_option(out, filter)?;
-            Ok(())
-        }
+        } => put_product(out, 11, product, *how, filter),
         Command::AddSubscriber {
             subscriber,
             format,
@@ -142,11 +110,7 @@ fn put_feed_command(out: &mut Vec<u8>, command: &Command) -> Result<(), AllocErr
             put_names(out, products)?;
             put_given(out, off, lag)
         }
-        Command::Resume { subscriber } => {
-            put_byte(out, 14)?;
-            put_name(out, subscriber)?;
-            Ok(())
-        }
+        Command::Resume { subscriber } => put_named(out, 14, subscriber),
         Command::AddScheme { scheme, rules } => {
             put_byte(out, 15)?;
             put_name(out, scheme)?;
@@ -154,10 +118,8 @@ fn put_feed_command(out: &mut Vec<u8>, command: &Command) -> Result<(), AllocErr
             Ok(())
         }
         Command::AddProvider { provider, scheme } => {
-            put_byte(out, 16)?;
-            put_name(out, provider)?;
-            put_option(out, scheme)?;
-            Ok(())
+            put_named(out, 16, provider)?;
+            put_option(out, scheme)
         }
         _ => put_draft_command(out, command),
     }
@@ -172,57 +134,30 @@ fn put_draft_command(out: &mut Vec<u8>, command: &Command) -> Result<(), AllocEr
 {
     match command {
         Command::Create { desk, story } => {
-            put_byte(out, credit_tag(story, 17, 33))?;
-            put_name(out, desk)?;
-            put_story(out, story)?;
-            Ok(())
+            put_named(out, credit_tag(story, 17, 33), desk)?;
+            put_story(out, story)
         }
         Command::Flash { story, targets } => {
             put_byte(out, credit_tag(story, 18, 34))?;
             put_story(out, story)?;
-            put_names(out, targets)?;
-            Ok(())
+            put_names(out, targets)
         }
-        Command::Lock { item, session } => {
-            put_byte(out, 19)?;
-            put_u32(out, *item)?;
-            put_name(out, session)?;
-            Ok(())
-        }
-        Command::Unlock { item, session } => {
-            put_byte(out, 20)?;
-            put_u32(out, *item)?;
-            put_name(out, session)?;
-            Ok(())
-        }
-        Command::BreakLock { item } => {
-            put_byte(out, 21)?;
-            put_u32(out, *item)?;
-            Ok(())
-        }
+        Command::Lock { item, session } => put_held(out, 19, *item, session),
+        Command::Unlock { item, session } => put_held(out, 20, *item, session),
+        Command::BreakLock { item } => put_item(out, 21, *item),
         Command::Edit {
             item,
             session,
             story,
         } => {
-            put_byte(out, credit_tag(story, 22, 35))?;
-            put_u32(out, *item)?;
-            put_name(out, session)?;
-            put_story(out, story)?;
-            Ok(())
+            put_held(out, credit_tag(story, 22, 35), *item, session)?;
+            put_story(out, story)
         }
         Command::MoveTo { item, desk, stage } => {
-            put_byte(out, 23)?;
-            put_u32(out, *item)?;
-            put_name(out, desk)?;
-            put_name(out, stage)?;
-            Ok(())
+            put_held(out, 23, *item, desk)?;
+            put_name(out, stage)
         }
-        Command::Spike { item } => {
-            put_byte(out, 24)?;
-            put_u32(out, *item)?;
-            Ok(())
-        }
+        Command::Spike { item } => put_item(out, 24, *item),
         _ => put_release_command(out, command),
     }
 }
@@ -235,18 +170,8 @@ fn put_release_command(out: &mut Vec<u8>, command: &Command) -> Result<(), Alloc
     ensures form { OnOk result (IsFormedCommand command.now) }
 {
     match command {
-        Command::Unspike { item, desk } => {
-            put_byte(out, 25)?;
-            put_u32(out, *item)?;
-            put_name(out, desk)?;
-            Ok(())
-        }
-        Command::Fetch { item, desk } => {
-            put_byte(out, 26)?;
-            put_u32(out, *item)?;
-            put_name(out, desk)?;
-            Ok(())
-        }
+        Command::Unspike { item, desk } => put_held(out, 25, *item, desk),
+        Command::Fetch { item, desk } => put_held(out, 26, *item, desk),
         Command::Publish {
             item,
             session,
@@ -254,55 +179,90 @@ fn put_release_command(out: &mut Vec<u8>, command: &Command) -> Result<(), Alloc
             embargo,
             targets,
         } => {
-            put_byte(out, 27)?;
-            put_u32(out, *item)?;
-            put_name(out, session)?;
+            put_held(out, 27, *item, session)?;
             put_option(out, schedule)?;
             put_option(out, embargo)?;
-            put_names(out, targets)?;
-            Ok(())
+            put_names(out, targets)
         }
         Command::Correct {
             item,
             session,
             story,
         } => {
-            put_byte(out, credit_tag(story, 28, 36))?;
-            put_u32(out, *item)?;
-            put_name(out, session)?;
-            put_story(out, story)?;
-            Ok(())
+            put_held(out, credit_tag(story, 28, 36), *item, session)?;
+            put_story(out, story)
         }
         Command::Kill {
             item,
             session,
             note,
         } => {
-            put_byte(out, 29)?;
-            put_u32(out, *item)?;
-            put_name(out, session)?;
-            put_text(out, note)?;
-            Ok(())
+            put_held(out, 29, *item, session)?;
+            put_text(out, note)
         }
         Command::Recall {
             item,
             session,
             note,
         } => {
-            put_byte(out, 30)?;
-            put_u32(out, *item)?;
-            put_name(out, session)?;
-            put_text(out, note)?;
-            Ok(())
+            put_held(out, 30, *item, session)?;
+            put_text(out, note)
         }
-        Command::Deschedule { item } => {
-            put_byte(out, 31)?;
-            put_u32(out, *item)?;
-            Ok(())
-        }
+        Command::Deschedule { item } => put_item(out, 31, *item),
         Command::Stop => put_byte(out, 32),
         _ => unreachable!(),
     }
+}
+
+/// Writes a tag and a name.
+fn put_named(out: &mut Vec<u8>, tag: u8, named: &Name) -> Result<(), AllocError>
+    ensures bytes { OnOk result (out.new.items ≡ out.old.items ++ (byte tag & name named.now)) }
+    ensures form { OnOk result (IsName named.now) }
+{
+    put_byte(out, tag)?;
+    put_name(out, named)
+}
+
+/// Writes a tag, a user and its privileges.
+fn put_user(out: &mut Vec<u8>, tag: u8, user: &Name, bits: u16) -> Result<(), AllocError>
+    ensures bytes { OnOk result (out.new.items ≡ out.old.items ++ (byte tag & name user.now & u16 bits)) }
+    ensures form { OnOk result (IsName user.now) }
+{
+    put_named(out, tag, user)?;
+    out.extend_from_slice(&bits.to_be_bytes())
+}
+
+/// Writes a tag, a product, how it takes its filter, and the filter where there is one.
+fn put_product(
+    out: &mut Vec<u8>,
+    tag: u8,
+    product: &Name,
+    how: How,
+    filter: &Option<Name>,
+) -> Result<(), AllocError>
+    ensures bytes { OnOk result (out.new.items ≡ out.old.items ++ (byte tag & name product.now & byte (how_number how) & option name filter.now)) }
+    ensures form { OnOk result (IsName product.now × IsOption IsName filter.now) }
+{
+    put_named(out, tag, product)?;
+    put_byte(out, how_byte(how))?;
+    put_option(out, filter)
+}
+
+/// Writes a tag and an item.
+fn put_item(out: &mut Vec<u8>, tag: u8, item: u32) -> Result<(), AllocError>
+    ensures { OnOk result (out.new.items ≡ out.old.items ++ (byte tag & u32 item)) }
+{
+    put_byte(out, tag)?;
+    put_u32(out, item)
+}
+
+/// Writes a tag, an item, and the name of who holds it or where it goes.
+fn put_held(out: &mut Vec<u8>, tag: u8, item: u32, named: &Name) -> Result<(), AllocError>
+    ensures bytes { OnOk result (out.new.items ≡ out.old.items ++ (byte tag & u32 item & name named.now)) }
+    ensures form { OnOk result (IsName named.now) }
+{
+    put_item(out, tag, item)?;
+    put_name(out, named)
 }
 
 /// The tag of a setting of a subscriber, which gives a lag or not.

@@ -12,6 +12,9 @@ use byte_formats::put_name;
 use news_types::{Act, Bytes, Entry, Memory};
 use std::alloc::{AllocError, Global};
 
+/// The bytes of most entries go into so many.
+const AHEAD: usize = 512;
+
 /// The record of an entry: four bytes of length, the entry's bytes, and the next gate, 0.
 pub fn encode(alloc: Global, entry: &Entry) -> Result<Bytes, Memory>
     requires { Fits entry.now }
@@ -20,11 +23,11 @@ pub fn encode(alloc: Global, entry: &Entry) -> Result<Bytes, Memory>
     // It is read again.
     ensures entry { OnOk result (IsEntry entry.now) }
 {
-    let mut payload = Vec::new(alloc);
+    let mut payload = Vec::with_capacity(alloc, AHEAD)?;
     put_u64(&mut payload, entry.moment)?;
     put_act(&mut payload, &entry.act)?;
     let payload = payload.as_slice();
-    let mut record = Vec::new(alloc);
+    let mut record = Vec::with_capacity(alloc, payload.len().saturating_add(5))?;
     put_u32(&mut record, payload.len() as u32)?;
     record.extend_from_slice(payload)?;
     record.push(0)?;

@@ -147,6 +147,7 @@ fn whole_act(alloc: Global, block: &[u8], tag: u8) -> Result<Act, Stopped>
     let act = act_behind(alloc, &mut input, tag)?;
     let left = input.left();
     if left != 0 {
+        drop(act);
         return Err(Stopped::Left(left));
     }
     Ok(act)

@@ -17,6 +17,3 @@ pub use packing::{Packed, pack, pack_payloads};
 pub use payloads::{SegmentPayloads, unpack_payloads};
 pub use reading::unpack;
 pub use segment::{Entries, Segment};
-
-#[cfg(test)]
-mod tests;

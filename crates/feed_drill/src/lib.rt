@@ -10,6 +10,3 @@ mod standing;
 mod stopped;
 
 pub use drill::run_drill;
-
-#[cfg(test)]
-mod tests;

@@ -10,6 +10,3 @@ mod laws;
 
 pub use frame::write_frame;
 pub use laws::frame_sizes_law;
-
-#[cfg(test)]
-mod tests;

@@ -12,8 +12,6 @@ mod exchange;
 mod laws;
 mod plain;
 mod telling;
-#[cfg(test)]
-mod tests;
 mod turn;
 
 pub use answers::{Answers, HttpAnswer};

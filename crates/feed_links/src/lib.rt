@@ -8,8 +8,6 @@ mod line;
 mod memory_link;
 mod place;
 mod tcp_link;
-#[cfg(test)]
-mod tests;
 
 pub use law::replies_law;
 pub use memory_link::MemoryLink;

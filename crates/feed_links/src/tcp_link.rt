@@ -7,22 +7,32 @@ use crate::place::place_of;
 use news_io::{Failed, Faults, Link};
 use news_types::{Memory, Name, Names, Text};
 use std::alloc::Global;
-use std::io::{self, ErrorKind, Read, Write};
-use std::net::{Net, TcpStream};
+use std::io::{self, BufReader, ErrorKind, Read, Write};
+use std::net::{Net, TcpStream, ToSocketAddrs};
 use std::time::Duration;
 
 /// How long one read or write over a connection may wait, in seconds.
 const PATIENCE: u64 = 30;
 
+/// How long the connecting to one address may take, in seconds.
+const CONNECTING: u64 = 10;
+
+/// How many bytes of replies are read at a time.
+const AHEAD: usize = 256;
+
 /// A link to receivers over TCP, by their addresses. A connection is made at the first send to a subscriber and kept.
-/// One whose call failed, or whose reply ended without a line feed, is closed, and the next send makes another. A receiver that
-/// takes or gives no byte for 30 seconds fails the call.
+/// One whose call failed, or whose reply ended without a line feed, is closed, and the next send makes another; so does a
+/// send that finds that its receiver has closed the kept one. A receiver that takes or gives no byte for 30 seconds fails the
+/// call, and connecting has 10 seconds for each address that a name stands for.
 /// It tells nothing of its frames and replies.
 #[derive(Drop)]
 pub struct TcpLink<R> {
+    alloc: Global,
     rt: R,
     names: Names,
     peers: Vec<Peer>,
+    /// How long one read or write over a connection may wait.
+    patience: Duration,
     faults: Faults,
 }
 
@@ -30,16 +40,55 @@ pub struct TcpLink<R> {
 #[derive(Drop)]
 struct Peer {
     address: Text,
-    stream: Option<TcpStream>,
+    stream: Option<BufReader<TcpStream>>,
+}
+
+/// Connects to the first address of a name that can be reached.
+fn reach<R: Net<Stream = TcpStream>>(rt: &R, address: &str) -> io::Result<TcpStream> {
+    let mut last = io::Error::from(ErrorKind::InvalidInput);
+    for place in address.to_socket_addrs(rt)? {
+        match TcpStream::connect_timeout(rt, &place, Duration::from_secs(CONNECTING)) {
+            Ok(stream) => return Ok(stream),
+            Err(error) => last = error,
+        }
+    }
+    Err(last)
 }
 
 /// Connects to an address. A read or a write that waits too long fails.
-fn connect<R: Net<Stream = TcpStream>>(rt: &R, address: &str) -> io::Result<TcpStream> {
-    let stream = TcpStream::connect(rt, address)?;
-    let patience = Some(Duration::from_secs(PATIENCE));
-    stream.set_read_timeout(patience)?;
-    stream.set_write_timeout(patience)?;
-    Ok(stream)
+fn connect<R: Net<Stream = TcpStream>>(
+    rt: &R,
+    alloc: Global,
+    address: &str,
+    patience: Duration,
+) -> io::Result<BufReader<TcpStream>> {
+    let stream = reach(rt, address)?;
+    stream.set_read_timeout(Some(patience))?;
+    stream.set_write_timeout(Some(patience))?;
+    stream.set_nodelay(true)?;
+    match BufReader::with_capacity(alloc, AHEAD, stream) {
+        Ok(reader) => Ok(reader),
+        Err(_) => Err(io::Error::from(ErrorKind::OutOfMemory)),
+    }
+}
+
+/// What stands ahead of a connection that was read to the end of a reply: it does not wait for a byte.
+fn look_ahead(stream: &TcpStream) -> io::Result<usize> {
+    stream.set_nonblocking(true)?;
+    let looked = stream.peek(&mut [0]);
+    stream.set_nonblocking(false)?;
+    looked
+}
+
+/// Whether a kept connection can take a frame: its receiver has not closed it, and no byte came that nobody asked for.
+fn is_idle(stream: &BufReader<TcpStream>) -> bool {
+    if !stream.buffer().is_empty() {
+        return false;
+    }
+    match look_ahead(stream.get_ref()) {
+        Ok(_) => false,
+        Err(error) => error.kind() == ErrorKind::WouldBlock,
+    }
 }
 
 /// The next byte, or nothing at the end. A read that a signal cut short is made again.
@@ -56,7 +105,7 @@ fn next_byte<S: Read>(stream: &mut S) -> io::Result<Option<u8>> {
     Err(io::Error::from(ErrorKind::Interrupted))
 }
 
-/// Reads a reply, byte by byte, so that nothing behind its line feed is taken.
+/// Reads a reply, byte by byte, so that nothing behind its line feed is taken from the reader.
 fn read_line<S: Read>(stream: &mut S, into: &mut [u8; 128]) -> io::Result<usize>
     ensures within { IfOk result (λ n. n ≤ 128) }
     ensures reply { IfOk result (λ n. IsReply (take n into.new)) }
@@ -74,13 +123,20 @@ fn read_line<S: Read>(stream: &mut S, into: &mut [u8; 128]) -> io::Result<usize>
 }
 
 impl Peer {
-    /// Writes a frame, over a new connection where there is none. A connection whose write failed is closed.
-    fn send<R: Net<Stream = TcpStream>>(&mut self, rt: &R, frame: &[u8]) -> io::Result<()> {
+    /// Writes a frame, over a new connection where there is none or the kept one is of no use. A connection whose write failed
+    /// is closed.
+    fn send<R: Net<Stream = TcpStream>>(
+        &mut self,
+        rt: &R,
+        alloc: Global,
+        patience: Duration,
+        frame: &[u8],
+    ) -> io::Result<()> {
         let mut stream = match self.stream.take() {
-            Some(stream) => stream,
-            None => connect(rt, self.address.as_str())?,
+            Some(stream) if is_idle(&stream) => stream,
+            _ => connect(rt, alloc, self.address.as_str(), patience)?,
         };
-        stream.write_all(frame)?;
+        stream.get_mut().write_all(frame)?;
         self.stream = Some(stream);
         Ok(())
     }
@@ -128,11 +184,22 @@ impl<R: Net<Stream = TcpStream> + Drop> TcpLink<R> {
             })?;
         }
         Ok(TcpLink {
+            alloc,
             rt,
             names: Names::of(names),
             peers,
+            patience: Duration::from_secs(PATIENCE),
             faults: Faults::none(),
         })
+    }
+
+    /// The same link, a read or write of which may wait so long.
+    pub fn with_patience(mut self, patience: Duration) -> TcpLink<R>
+        ensures serves { tcp_link.serves result ≡ tcp_link.serves self }
+        ensures faults { tcp_link.faults result ≡ tcp_link.faults self }
+    {
+        self.patience = patience;
+        self
     }
 
     /// How many of its calls failed.
@@ -154,7 +221,7 @@ impl<R: Net<Stream = TcpStream>> Link for TcpLink<R> {
 
     fn send(&mut self, subscriber: &Name, frame: &[u8]) -> Result<(), Failed> {
         let sent = match peer_of(self.names.as_slice(), &mut self.peers, subscriber) {
-            Some(peer) => peer.send(&self.rt, frame),
+            Some(peer) => peer.send(&self.rt, self.alloc, self.patience, frame),
             None => Err(io::Error::from(ErrorKind::NotFound)),
         };
         self.faults.counted(sent)

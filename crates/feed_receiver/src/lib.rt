@@ -13,6 +13,3 @@ pub use law::{frames_law, receipts_law};
 pub use line::Line;
 pub use receipt::{read_receipt, receipt_line};
 pub use receiver::{Receiver, ReceiverFault, Taken};
-
-#[cfg(test)]
-mod tests;

@@ -11,6 +11,3 @@ pub use attempts::{Attempted, attempt_text};
 pub use feed::feed_text;
 pub use laws::feed_pages_law;
 pub use queue::{queue_text, summary_text};
-
-#[cfg(test)]
-mod tests;

@@ -11,6 +11,3 @@ mod run;
 pub use ending::Ending;
 pub use reading::answer_frames;
 pub use run::run_frames;
-
-#[cfg(test)]
-mod tests;

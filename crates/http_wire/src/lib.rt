@@ -14,8 +14,6 @@ mod ruling;
 mod seek;
 mod stop;
 mod target;
-#[cfg(test)]
-mod tests;
 
 pub use buffer::Buffer;
 pub use laws::requests_law;

@@ -56,6 +56,3 @@ pub fn next_state(state: State, action: Action) -> Option<State>
         _ => None,
     }
 }
-
-#[cfg(test)]
-mod tests;

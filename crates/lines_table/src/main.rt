@@ -39,7 +39,11 @@ fn main(rt: HostRuntime) -> io::Result<()> {
 /// Prints what a line is read as.
 fn print_line<R: Print + AllocGlobal>(rt: &R, line: &str) -> io::Result<()> {
     match read_line(rt.alloc(), line.as_bytes()) {
-        Ok(asked) => print_asked(rt, &asked),
+        Ok(asked) => {
+            let printed = print_asked(rt, &asked);
+            drop(asked);
+            printed
+        }
         Err(LineFault::Bad { property }) => println!(rt; "bad {}", word_of_property(property)),
         Err(LineFault::Memory) => Err(io::Error::from(ErrorKind::OutOfMemory)),
     }

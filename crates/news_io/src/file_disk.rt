@@ -1,13 +1,17 @@
 //! A file of the system as a disk.
 ghost use Rattle.std.specs.Prelude.{◌≡◌, ◌≤◌, ℕ, length, IfOk};
 
-use crate::{Disk, Failed, Faults};
-use std::fs::{File, Files, OpenOptions};
+use crate::{Access, Disk, Failed, Faults, Lock, NotOpened};
+use std::fs::{File, Files, OpenOptions, TryLockError};
 use std::io::{self, ErrorKind};
-use std::os::unix::fs::FileExt;
+use std::os::unix::fs::{FileExt, OpenOptionsExt};
 use std::path::Path;
 
-/// A file of the system, which is opened at the first call, and made where it is missing. It tells nothing of its content.
+/// The permissions of a file that is made: its owner may read and write it.
+const OWNERS_ALONE: u32 = 0o600;
+
+/// A file of the system, which is opened at the first call, or by `open`. One that is missing counts as empty, and is made by the first
+/// write, unless it is only to be read. It tells nothing of its content.
 #[derive(Drop)]
 pub struct FileDisk<R> {
     file: LateFile<R>,
@@ -19,19 +23,43 @@ pub struct FileDisk<R> {
 struct LateFile<R> {
     rt: R,
     path: String,
+    access: Access,
     file: Option<File>,
-    /// Whether the file was made and its folder is still to be synced.
-    is_new: bool,
+    /// Whether its folder is to be synced with it: whoever made the file may not have done so.
+    syncs_folder: bool,
+    /// Whether a write was refused since it is only to be read.
+    has_refused: bool,
 }
 
-/// Opens a file, or makes it, and tells whether it was made.
-fn open_or_make<R: Files<File = File>>(rt: &R, path: &str) -> io::Result<(File, bool)> {
-    match OpenOptions::new().read(true).write(true).open(rt, path) {
-        Ok(file) => Ok((file, false)),
-        Err(error) if error.kind() == ErrorKind::NotFound => {
-            Ok((File::create_new(rt, path)?, true))
+/// How a file is opened for this access.
+fn options_for(access: Access) -> OpenOptions {
+    let mut options = OpenOptions::new();
+    options.read(true);
+    match access {
+        Access::Read => {}
+        Access::Write => {
+            options.write(true);
         }
-        Err(error) => Err(error),
+        Access::Make => {
+            options.write(true).create(true).mode(OWNERS_ALONE);
+        }
+    }
+    options
+}
+
+/// Takes a lock on the file, if one is wanted.
+fn lock_file(file: &File, lock: Lock, waits: bool) -> Result<(), NotOpened> {
+    let taken = match (lock, waits) {
+        (Lock::Unlocked, _) => Ok(()),
+        (Lock::Shared, true) => file.lock_shared().map_err(TryLockError::Error),
+        (Lock::Shared, false) => file.try_lock_shared(),
+        (Lock::Exclusive, true) => file.lock().map_err(TryLockError::Error),
+        (Lock::Exclusive, false) => file.try_lock(),
+    };
+    match taken {
+        Ok(()) => Ok(()),
+        Err(TryLockError::WouldBlock) => Err(NotOpened::Held),
+        Err(TryLockError::Error(_)) => Err(NotOpened::Failed),
     }
 }
 
@@ -45,26 +73,50 @@ fn sync_folder<R: Files<File = File>>(rt: &R, path: &str) -> io::Result<()> {
 }
 
 impl<R: Files<File = File>> LateFile<R> {
-    fn open_file(&mut self) -> io::Result<&File> {
-        if self.file.is_none() {
-            let (file, is_new) = open_or_make(&self.rt, self.path.as_str())?;
-            self.is_new = is_new;
-            self.file = Some(file);
+    /// Opens the file, unless that is done. A missing one stays closed, unless it is to be made.
+    fn open(&mut self) -> io::Result<()> {
+        if self.file.is_some() {
+            return Ok(());
         }
-        match &self.file {
-            Some(file) => Ok(file),
-            None => Err(io::Error::from(ErrorKind::NotFound)),
+        match options_for(self.access).open(&self.rt, self.path.as_str()) {
+            Ok(file) => self.keep(file),
+            Err(error) if error.kind() == ErrorKind::NotFound && self.access != Access::Make => {
+                Ok(())
+            }
+            Err(error) => Err(error),
         }
     }
 
+    fn keep(&mut self, file: File) -> io::Result<()> {
+        self.syncs_folder = file.metadata()?.len() == 0;
+        self.file = Some(file);
+        Ok(())
+    }
+
+    /// Makes the file, if it is missing.
+    fn make(&mut self) -> io::Result<()> {
+        if self.file.is_some() {
+            return Ok(());
+        }
+        let file = options_for(Access::Make).open(&self.rt, self.path.as_str())?;
+        self.keep(file)
+    }
+
     fn size(&mut self) -> io::Result<u64> {
-        Ok(self.open_file()?.metadata()?.len())
+        self.open()?;
+        match &self.file {
+            Some(file) => Ok(file.metadata()?.len()),
+            None => Ok(0),
+        }
     }
 
     fn read(&mut self, at: u64, into: &mut [u8]) -> io::Result<usize>
         ensures { IfOk result (λ n. n ≤ length into.old) }
     {
-        let file = self.open_file()?;
+        self.open()?;
+        let Some(file) = &self.file else {
+            return Ok(0);
+        };
         // A read that a signal cut short is made again.
         for _ in 0..u64::MAX {
             match file.read_at(into, at) {
@@ -76,14 +128,27 @@ impl<R: Files<File = File>> LateFile<R> {
     }
 
     fn write_at(&mut self, at: u64, from: &[u8]) -> io::Result<()> {
-        self.open_file()?.write_all_at(from, at)
+        if self.access == Access::Read {
+            self.has_refused = true;
+            return Err(io::Error::from(ErrorKind::PermissionDenied));
+        }
+        self.open()?;
+        self.make()?;
+        match &self.file {
+            Some(file) => file.write_all_at(from, at),
+            None => Err(io::Error::from(ErrorKind::NotFound)),
+        }
     }
 
     fn sync(&mut self) -> io::Result<()> {
-        self.open_file()?.sync_data()?;
-        if self.is_new {
+        self.open()?;
+        let Some(file) = &self.file else {
+            return Ok(());
+        };
+        file.sync_data()?;
+        if self.syncs_folder {
             sync_folder(&self.rt, self.path.as_str())?;
-            self.is_new = false;
+            self.syncs_folder = false;
         }
         Ok(())
     }
@@ -93,18 +158,40 @@ impl<R: Files<File = File> + Drop> FileDisk<R> {
     ghost use Rattle.news_io.specs.Devices.{file_disk};
 
     /// A disk over the file at this path. Nothing is opened yet.
-    pub fn new(rt: R, path: String) -> FileDisk<R>
+    pub fn new(rt: R, path: String, access: Access) -> FileDisk<R>
         ensures { file_disk.faults result ≡ 0 }
     {
         FileDisk {
             file: LateFile {
                 rt,
                 path,
+                access,
                 file: None,
-                is_new: false,
+                syncs_folder: false,
+                has_refused: false,
             },
             faults: Faults::none(),
         }
+    }
+
+    /// Opens the file, and takes this lock on it, before anything of it is read or written. Where another open of the file holds a
+    /// lock against it, it waits for that one if `waits` is set. The lock is advice among those that ask for it; the system
+    /// gives it back when the process ends, however it ends.
+    pub fn open(&mut self, lock: Lock, waits: bool) -> Result<(), NotOpened>
+        ensures { file_disk.faults self.new ≡ file_disk.faults self.old }
+    {
+        if self.file.open().is_err() {
+            return Err(NotOpened::Failed);
+        }
+        match &self.file.file {
+            Some(file) => lock_file(file, lock, waits),
+            None => Err(NotOpened::Missing),
+        }
+    }
+
+    /// Whether a write was refused since the file is only to be read.
+    pub fn has_refused_write(&self) -> bool {
+        self.file.has_refused
     }
 
     /// How many of its calls failed.

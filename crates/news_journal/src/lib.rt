@@ -18,6 +18,3 @@ pub use log::{Journal, OpenFault};
 pub use opening::{Opened, read_records};
 pub use records::Records;
 pub use window::Window;
-
-#[cfg(test)]
-mod tests;

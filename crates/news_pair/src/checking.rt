@@ -6,7 +6,7 @@ ghost use Rattle.news_pair.specs.Damage.{first_of, no_entry, on_log, Judged};
 ghost use Rattle.news_pair.specs.Faults.{IsDiskFault};
 
 use crate::PairFault;
-use entry_codec::{CodecFault, decode};
+use entry_codec::{CodecFault, moment_of};
 use news_io::Record;
 use std::alloc::Global;
 
@@ -15,11 +15,8 @@ fn check_payload(alloc: Global, payload: &[u8]) -> Result<(), CodecFault>
     ensures whole { OnOk result ((gate : ℕ) → no_entry (gate, payload.now) ≡ None) }
     ensures fault { (at : ℕ) → result ≡ Err (At at) → (at ≤ length payload.now) × ((gate : ℕ) → no_entry (gate, payload.now) ≡ Some (gate + 5 + at, slice_get payload.now at)) }
 {
-    match decode(alloc, payload) {
-        Ok(entry) => {
-            drop(entry);
-            Ok(())
-        }
+    match moment_of(alloc, payload) {
+        Ok(_) => Ok(()),
         Err(fault) => Err(fault),
     }
 }

@@ -28,6 +28,3 @@ pub use law::{only_segment_law, packable_law, segment_law, undamaged_law};
 pub use opening::OpenedPair;
 pub use pack_fault::PackFault;
 pub use pair::Pair;
-
-#[cfg(test)]
-mod tests;

@@ -16,6 +16,3 @@ pub use answers::{Handled, Kept, RoomFault, Ticked};
 pub use claim::Claimed;
 pub use laws::completeness_law;
 pub use room::Room;
-
-#[cfg(test)]
-mod tests;

@@ -150,6 +150,3 @@ fn keep_small(machine: &mut Newsroom, here: &Record, entry: &Entry) -> Result<()
     machine.apply(&entry.act, entry.moment);
     Ok(())
 }
-
-#[cfg(test)]
-mod tests;

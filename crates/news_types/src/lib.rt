@@ -35,6 +35,3 @@ pub use text::{Bytes, Memory, Text};
 pub use words::{
     Action, Field, Format, How, Kind, Media, Op, Privilege, Privileges, PubStatus, State, Thing,
 };
-
-#[cfg(test)]
-mod tests;

@@ -6,7 +6,15 @@ ghost use Rattle.news_io.specs.Devices.{file_disk};
 ghost use Rattle.news_pair.specs.Keeper.{pair_of};
 ghost use Rattle.news_room.specs.Stands.{SomeBook};
 
-use command_words::{Serving, command_help, help_texts, read_serving, version_text};
+mod descriptors;
+mod store;
+
+use crate::descriptors::hold_descriptors;
+use crate::store::{Keeping, keeping_of, open_files};
+use command_words::{
+    Options, Serving, command_help, help_texts, read_options, read_serving, read_words,
+    version_text,
+};
 use feed_links::TcpLink;
 use news_io::{FileDisk, Sink, StdClock, StdSink, StdSource, write_all};
 use news_pair::Pair;
@@ -27,8 +35,11 @@ use std::{env, io};
 
 fn main(rt: HostRuntime) -> ExitCode {
     let alloc = rt.alloc();
+    let Ok(held) = hold_descriptors(&rt, alloc) else {
+        return ExitCode::from(Status::Usage.number());
+    };
     let shows = rt.stderr().is_terminal();
-    let words = match words_of(&rt) {
+    let mut words = match words_of(&rt) {
         Ok(words) => words,
         Err(NoWords::Faulty) => return ExitCode::from(Status::Usage.number()),
         Err(NoWords::Memory) => return ExitCode::from(Status::Memory.number()),
@@ -36,13 +47,32 @@ fn main(rt: HostRuntime) -> ExitCode {
     let Ok(mut output) = StdSink::new(alloc, io::writer(&rt)) else {
         return ExitCode::from(Status::Memory.number());
     };
-    let Some(serving) = read_serving(&words) else {
-        return ExitCode::from(start(&rt, alloc, &words, &mut output, shows));
+    let Some(options) = take_options(&mut words) else {
+        return ExitCode::from(tell_status(&mut output, Status::Usage));
     };
-    ExitCode::from(match server_of(&rt, alloc, &words, serving) {
+    let Some(serving) = read_serving(&words) else {
+        return ExitCode::from(start(&rt, alloc, &words, options, &mut output, shows));
+    };
+    let status = match server_of(&rt, alloc, &words, options, serving) {
         Ok(setup) => run_serve(&rt, alloc, setup, &mut output).status.number(),
         Err(status) => tell_status(&mut output, status),
-    })
+    };
+    drop(held);
+    ExitCode::from(status)
+}
+
+/// Takes the options out of the words; nothing where one stands twice.
+fn take_options(words: &mut Vec<Text>) -> Option<Options> {
+    let options = match words.is_empty() {
+        true => Options::none(),
+        false => read_options(words)?,
+    };
+    for _ in 0..options.count() {
+        if words.len() > 1 {
+            drop(words.remove(1));
+        }
+    }
+    Some(options)
 }
 
 /// Why there is no command to do.
@@ -83,7 +113,7 @@ fn start<
         + Clone
         + Drop,
     O: Sink,
->(rt: &R, alloc: Global, words: &[Text], output: &mut O, shows: bool) -> u8 {
+>(rt: &R, alloc: Global, words: &[Text], options: Options, output: &mut O, shows: bool) -> u8 {
     if words.len() == 1 {
         match words[0].as_str() {
             "--help" => return say(output, &help_texts()),
@@ -96,9 +126,19 @@ fn start<
             return say(output, &[line]);
         }
     }
-    match run_words(rt, alloc, words, output, shows) {
-        Ok(status) => status,
-        Err(Memory) => Status::Memory.number(),
+    let Some(job) = read_words(words) else {
+        return tell_status(output, Status::Usage);
+    };
+    let keeping = keeping_of(job);
+    if !keeping.allows(options) {
+        return tell_status(output, Status::Usage);
+    }
+    match open_files(rt, alloc, words, keeping, options) {
+        Ok((log, side)) => match run_words(rt, alloc, words, output, log, side, shows) {
+            Ok(status) => status,
+            Err(Memory) => tell_status(output, Status::Memory),
+        },
+        Err(status) => tell_status(output, status),
     }
 }
 
@@ -127,7 +167,7 @@ fn meter<R: Clock + Eprint + Clone>(
     Ok(Some(Meter::new(rt.clone()?, content)))
 }
 
-/// Makes the real objects, and runs the command. Where `shows` is set, standard error shows how far the log and the input are read,
+/// Makes the other real objects, and runs the command over the two files. Where `shows` is set, standard error shows how far the log and the input are read,
 /// and of a drill, which reads neither, how many steps it has taken.
 fn run_words<
     R: Files<File = File>
@@ -139,7 +179,15 @@ fn run_words<
         + Clone
         + Drop,
     O: Sink,
->(rt: &R, alloc: Global, words: &[Text], output: &mut O, shows: bool) -> Result<u8, Memory> {
+>(
+    rt: &R,
+    alloc: Global,
+    words: &[Text],
+    output: &mut O,
+    log: FileDisk<R>,
+    side: FileDisk<R>,
+    shows: bool,
+) -> Result<u8, Memory> {
     let mut input = Watched::new(
         StdSource::new(alloc, rt.reader())?,
         meter(rt, shows, Content::Lines)?,
@@ -149,7 +197,6 @@ fn run_words<
         StdClock::new(rt.clone()?),
         meter(rt, shows && drills, Content::Steps)?,
     );
-    let (log, side) = files_of(rt, alloc, words)?;
     let log = Watched::new(log, meter(rt, shows, Content::Binary)?);
     let side = Watched::new(side, None);
     let mut links = Vec::new(alloc);
@@ -160,6 +207,11 @@ fn run_words<
     if log.has_shown() || input.has_shown() || clock.has_shown() {
         let _ = eprintln!(rt);
     }
+    if log.inner.has_refused_write() {
+        let _ = eprintln!(rt;
+            "newsdesk: the last packing was cut short: `newsdesk pack STORE` puts the log right"
+        );
+    }
     Ok(status)
 }
 
@@ -168,14 +220,26 @@ type Newsdesk<R> = Setup<Pair<FileDisk<R>>, StdClock<R>, TcpDoor<R>, TcpLink<R>>
 
 /// The room of the store that the words name, with what its server needs beside it; or the status that says why there is none.
 fn server_of<
-    R: Files<File = File> + Net<Listener = TcpListener, Stream = TcpStream> + Clock + Clone + Drop,
->(rt: &R, alloc: Global, words: &[Text], serving: Serving<'_>) -> Result<Newsdesk<R>, Status>
+    R: Files<File = File>
+        + Net<Listener = TcpListener, Stream = TcpStream>
+        + Clock
+        + Eprint
+        + Clone
+        + Drop,
+>(
+    rt: &R,
+    alloc: Global,
+    words: &[Text],
+    options: Options,
+    serving: Serving<'_>,
+) -> Result<Newsdesk<R>, Status>
     ensures stands { IfOk result (λ setup. SomeBook (pair_of file_disk) setup.room) }
     ensures clocks { IfOk result (λ setup. vec_len setup.clocks ≡ vec_len setup.links + 1) }
 {
-    let Ok((log, side)) = files_of(rt, alloc, words) else {
-        return Err(Status::Memory);
-    };
+    if !Keeping::Writes.allows(options) {
+        return Err(Status::Usage);
+    }
+    let (log, side) = open_files(rt, alloc, words, Keeping::Writes, options)?;
     let room = match open_store(alloc, log, side) {
         Ok(room) => room,
         Err((status, _, _)) => return Err(status),
@@ -189,17 +253,6 @@ fn server_of<
         clocks,
         links,
     })
-}
-
-/// The log that the words name, and its side.
-fn files_of<R: Files<File = File> + Clone + Drop>(
-    rt: &R,
-    alloc: Global,
-    words: &[Text],
-) -> Result<(FileDisk<R>, FileDisk<R>), Memory> {
-    let log = FileDisk::new(rt.clone()?, path_of(alloc, words, "")?);
-    let side = FileDisk::new(rt.clone()?, path_of(alloc, words, ".side")?);
-    Ok((log, side))
 }
 
 /// A door at the address, a clock for each role, and a link over all receivers for each worker.
@@ -252,14 +305,4 @@ fn receivers_in(alloc: Global, pairs: &[Text]) -> Result<Vec<(Name, Text)>, Memo
         receivers.push((name, Text::copy_of(alloc, address.as_str())?))?;
     }
     Ok(receivers)
-}
-
-/// The path of the store that the words name, with this behind it.
-fn path_of(alloc: Global, words: &[Text], behind: &str) -> Result<String, Memory> {
-    let mut path = String::new(alloc);
-    if let Some(store) = words.get(1) {
-        path.push_str(store.as_str())?;
-    }
-    path.push_str(behind)?;
-    Ok(path)
 }

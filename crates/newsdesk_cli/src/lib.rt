@@ -7,6 +7,3 @@ mod pack;
 mod telling;
 
 pub use command::run;
-
-#[cfg(test)]
-mod tests;

@@ -11,6 +11,3 @@ mod summary;
 pub use opening::open_store;
 pub use serve::run_serve;
 pub use setup::{Served, Setup};
-
-#[cfg(test)]
-mod tests;

@@ -16,6 +16,3 @@ mod writing;
 pub use fault::{NinjsFault, Property};
 pub use reading::read;
 pub use writing::write;
-
-#[cfg(test)]
-mod tests;

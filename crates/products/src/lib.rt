@@ -6,8 +6,6 @@ mod due;
 mod judge;
 mod permit;
 mod table;
-#[cfg(test)]
-mod tests;
 
 pub use change::ProductChange;
 pub use table::Products;

@@ -6,6 +6,3 @@ mod watched;
 
 pub use meter::{Content, Meter};
 pub use watched::Watched;
-
-#[cfg(test)]
-mod tests;

@@ -25,6 +25,3 @@ pub use ask::FeedFacts;
 pub use news_types::Ready;
 pub use queue::Queue;
 pub use release::Span;
-
-#[cfg(test)]
-mod tests;

@@ -17,6 +17,3 @@ pub use laws::{completeness_law, links_law, memory_law};
 pub use links::{drain_links, status_of};
 pub use turn::deliver_turn;
 pub use worked::Worked;
-
-#[cfg(test)]
-mod tests;

@@ -11,6 +11,3 @@ pub use law::opened_law;
 pub use opening::open_receiver;
 pub use receive::receive_frames;
 pub use refusal::Refusal;
-
-#[cfg(test)]
-mod tests;

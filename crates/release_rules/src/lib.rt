@@ -8,6 +8,3 @@ mod writing;
 pub use delays::{lagged, release, retry_delay};
 pub use reading::moment_of_text;
 pub use writing::{MomentText, text_of_moment};
-
-#[cfg(test)]
-mod tests;

@@ -10,6 +10,7 @@
 //! such book with [`Shared::base`] entries, lies before them.
 #![tactic(auto)]
 
+mod gate;
 mod pass;
 mod rule;
 mod shared;
@@ -21,6 +22,3 @@ pub use pass::Pass;
 pub use shared::Shared;
 pub use view::Call;
 pub use work::Work;
-
-#[cfg(test)]
-mod tests;

@@ -7,6 +7,7 @@ ghost use Rattle.room_lock.specs.Calls.{InOrder, AllClear, merged, longer};
 ghost use Rattle.room_lock.specs.Passes.{IsTurn, Lent, found_by, left_by};
 ghost use Rattle.room_lock.specs.declared.view.Call.{Call};
 
+use crate::gate::Gate;
 use crate::pass::Pass;
 use crate::rule::{Divide, OneHistory, Recall, Unite};
 use crate::turn::{Place, TICKET};
@@ -26,6 +27,7 @@ use std::sync::Wait;
 pub struct Shared<T: StandsFor> {
     pub(crate) table: Table<Option<T>, View, Snapshot<T>, OneHistory, Global>,
     base: u64,
+    gate: Gate,
     ghost sized: { (table.shared.table_id.words ≡ 3) × (table.shared.table_id.slots ≡ 1) },
 }
 
@@ -58,7 +60,14 @@ impl<T: StandsFor + Drop> Shared<T> {
                 let pass = Pass {
                     badge: seat.into_badge(),
                 };
-                Ok((Shared { table, base }, pass))
+                Ok((
+                    Shared {
+                        table,
+                        base,
+                        gate: Gate::new(),
+                    },
+                    pass,
+                ))
             }
             Err(Refused { mut slots }) => {
                 let first = slots.pop().unwrap().unwrap();
@@ -101,6 +110,29 @@ impl<T: StandsFor + Drop> Shared<T> {
         let to = room.count();
         self.count::<Brand, W>(&mut seat, to - from, &found, &room, &began, work);
         self.leave(seat, room)
+    }
+
+    /// Takes one turn as `with_turn` does, behind a gate that lets one thread through at a time. For threads that take
+    /// turns again and again, so that the others find a short line.
+    pub fn with_turn_among<W: Work<T>>(&self, rt: &impl Wait, pass: Pass, work: &mut W) -> Pass
+        requires lock { lock_of pass ≡ id_of self.now }
+        ensures lock { lock_of result ≡ lock_of pass }
+        ensures order { InOrder 0 (calls result) (length (front result)) }
+        // What the work says of its turn holds between what the call found and what it left.
+        ensures turn { (c : Call)
+            × IsTurn (front pass) (calls pass) (front result) (calls result) c
+            × ((b : Book) → T.stands (start_of self.now) b
+            → W.does work.old (found_by c b (front result)) work.new (left_by c b (front result))) }
+        // The value stood for these, and the numbers beside the call are its own.
+        ensures lent { (c : Call) × (calls result ≡ calls pass ++ c ∷ [])
+            × Lent T.stands T.faults T.used (T.stands (start_of self.now)) (front result) c }
+        // The value with which the lock was made stood for something.
+        ensures stood { (b : Book) × T.stands (start_of self.now) b }
+    {
+        self.gate.enter(rt);
+        let pass = self.with_turn(rt, pass, work);
+        self.gate.leave();
+        pass
     }
 
     /// Makes a second pass, which has seen as much and made no calls.

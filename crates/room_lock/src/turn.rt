@@ -13,6 +13,7 @@ use crate::shared::Shared;
 use crate::view::View;
 use atomic_table::Seat;
 use news_types::StandsFor;
+use std::hint::spin_loop;
 use std::marker::Brand;
 use std::snapshot::Snapshot;
 use std::sync::Wait;
@@ -26,6 +27,9 @@ const SERVING: usize = 1;
 const COUNT: usize = 2;
 
 const ROOM: usize = 0;
+
+// How often a seat that is next looks before it sleeps.
+const LOOKS: u32 = 1_000;
 
 pub(crate) type Place<T> = Seat<Option<T>, View>;
 
@@ -71,9 +75,23 @@ impl<T: StandsFor + Drop> Shared<T> {
             if served == ticket {
                 return;
             }
-            shared.park(rt, SERVING, (served % (1 << 32)) as u32);
+            self.wait_for(rt, served, ticket);
         }
         unreachable!()
+    }
+
+    // Waits for somebody to pass on. A seat that is next looks for a while, since a turn is mostly short, and then sleeps.
+    fn wait_for(&self, rt: &impl Wait, served: u64, ticket: u64) {
+        let shared = &self.table.shared;
+        if ticket.wrapping_sub(served) == 1 {
+            for _ in 0..LOOKS {
+                if shared.peek(SERVING) != served {
+                    return;
+                }
+                spin_loop();
+            }
+        }
+        shared.park(rt, SERVING, (served % (1 << 32)) as u32);
     }
 
     // Begins a turn: the value is out of its slot, and the seat has seen all for which it stands.
@@ -126,8 +144,11 @@ impl<T: StandsFor + Drop> Shared<T> {
     {
         let shared = &self.table.shared;
         drop(shared.exchange(&mut seat, ROOM, Some(room)));
-        shared.fetch_add::<PassOn>(&mut seat, SERVING, 1);
-        shared.wake_all(SERVING);
+        let served = shared.fetch_add::<PassOn>(&mut seat, SERVING, 1);
+        // Who draws a ticket behind this look sees the new number.
+        if shared.peek(TICKET) != served.wrapping_add(1) {
+            shared.wake_all(SERVING);
+        }
         Pass {
             badge: seat.into_badge(),
         }

@@ -9,6 +9,3 @@ mod release;
 
 pub use feed::tell_feed;
 pub use queue::tell_queue;
-
-#[cfg(test)]
-mod tests;

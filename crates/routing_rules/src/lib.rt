@@ -17,6 +17,3 @@ pub use actions::Actions;
 pub use judge::judge_scheme;
 pub use routing::{Routes, route};
 pub use rows::{clocks_of_zones, zones_by_name};
-
-#[cfg(test)]
-mod tests;

@@ -50,6 +50,8 @@ pub enum Status {
         /// within a frame.
         at: u64,
     },
+    /// Another program has the store, and nothing of it was read or written.
+    Held,
 }
 
 /// The longest line: the words, and two numbers.
@@ -96,6 +98,7 @@ impl Status {
             Status::NoReceipt => 11,
             Status::TooLong => 12,
             Status::BadFrame { .. } => 13,
+            Status::Held => 15,
         }
     }
 
@@ -128,6 +131,7 @@ impl Status {
                 line.push_decimal(at);
                 line.push_slice(b",\"status\":13}\n");
             }
+            Status::Held => line.push_slice(b"{\"status\":15}\n"),
         }
         line
     }

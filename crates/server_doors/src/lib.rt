@@ -3,12 +3,21 @@
 
 mod connection;
 mod door;
+mod hall;
+mod held;
 mod memory_door;
+mod outlet;
+mod reach;
 mod tcp_door;
+mod tcp_sink;
+mod tcp_source;
 #[cfg(test)]
 mod tests;
+mod wire;
 
 pub use connection::Opened;
 pub use door::Door;
 pub use memory_door::MemoryDoor;
 pub use tcp_door::TcpDoor;
+pub use tcp_sink::TcpSink;
+pub use tcp_source::TcpSource;

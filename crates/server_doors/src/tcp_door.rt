@@ -2,67 +2,36 @@
 ghost use Rattle.std.specs.Prelude.{◌≡◌};
 
 use crate::door::Door;
-use news_io::{Failed, Faults, StdSink, StdSource};
+use crate::hall::Hall;
+use crate::tcp_sink::TcpSink;
+use crate::tcp_source::TcpSource;
+use news_io::{Failed, Faults};
 use news_types::Text;
 use std::alloc::Global;
-use std::io::{self, ErrorKind};
+use std::io;
 use std::net::{Net, TcpListener, TcpStream};
-use std::time::Duration;
+use std::time::{Clock, Duration};
 
-/// How long one read or write over a connection may wait, in seconds.
-const PATIENCE: u64 = 30;
+/// How long a request may take from its first byte to its last, and a response, in seconds.
+const PATIENCE: u64 = 60;
 
-/// A door that listens at an address, from its first call on. A connection is closed where it is given back. It tells
-/// nothing of its connections. A client that gives or takes no byte for 30 seconds fails the read or the write, so that it
-/// doesn't hold up those behind it.
+/// A door that listens at an address, from its first call on. It tells nothing of its connections.
+///
+/// It holds at most 64 of them, and reads them beside each other: one is given when a request of it is whole. It is taken back
+/// behind the answer, and held on until the next request is whole, unless it has ended. One that fails or runs out of its time
+/// the door closes by itself, and tells how many these were, once a minute.
 #[derive(Drop)]
 pub struct TcpDoor<R> {
     alloc: Global,
     rt: R,
     address: Text,
-    listener: Option<TcpListener>,
+    /// How long a request or a response may take, from the first call on.
+    pub(crate) patience: Duration,
+    hall: Option<Hall>,
     faults: Faults,
 }
 
-fn out_of_memory() -> io::Error {
-    io::Error::from(ErrorKind::OutOfMemory)
-}
-
-/// The next connection. One that was broken off before it was taken is passed over.
-fn next_stream(listener: &TcpListener) -> io::Result<TcpStream> {
-    for _ in 0..u64::MAX {
-        match listener.accept() {
-            Ok((stream, _)) => return Ok(stream),
-            Err(error) if is_passed_over(error.kind()) => {}
-            Err(error) => return Err(error),
-        }
-    }
-    Err(io::Error::from(ErrorKind::ConnectionAborted))
-}
-
-fn is_passed_over(kind: ErrorKind) -> bool {
-    matches!(kind, ErrorKind::Interrupted | ErrorKind::ConnectionAborted)
-}
-
-/// The two ends of a connection.
-fn ends_of(
-    alloc: Global,
-    stream: TcpStream,
-) -> io::Result<(StdSource<TcpStream>, StdSink<TcpStream>)> {
-    let patience = Some(Duration::from_secs(PATIENCE));
-    stream.set_read_timeout(patience)?;
-    stream.set_write_timeout(patience)?;
-    let output = stream.try_clone()?;
-    let Ok(source) = StdSource::new(alloc, stream) else {
-        return Err(out_of_memory());
-    };
-    let Ok(sink) = StdSink::new(alloc, output) else {
-        return Err(out_of_memory());
-    };
-    Ok((source, sink))
-}
-
-impl<R: Net<Listener = TcpListener, Stream = TcpStream> + Drop> TcpDoor<R> {
+impl<R: Drop> TcpDoor<R> {
     ghost use Rattle.server_doors.specs.Devices.{tcp_door};
 
     /// A door at an address: a host and a port, as `127.0.0.1:8080`.
@@ -73,7 +42,8 @@ impl<R: Net<Listener = TcpListener, Stream = TcpStream> + Drop> TcpDoor<R> {
             alloc,
             rt,
             address,
-            listener: None,
+            patience: Duration::from_secs(PATIENCE),
+            hall: None,
             faults: Faults::none(),
         }
     }
@@ -86,37 +56,38 @@ impl<R: Net<Listener = TcpListener, Stream = TcpStream> + Drop> TcpDoor<R> {
     }
 }
 
-impl<R: Net<Listener = TcpListener, Stream = TcpStream>> TcpDoor<R> {
-    /// The next connection, behind the first call's listening.
-    fn next(&mut self) -> io::Result<TcpStream>
+impl<R: Net<Listener = TcpListener, Stream = TcpStream> + Clock + Eprint> TcpDoor<R> {
+    /// The next connection whose request is whole, behind the first call's listening.
+    fn next(&mut self) -> io::Result<(TcpSource, TcpSink)>
         ensures { self.new.faults ≡ self.old.faults }
     {
-        let listener = match self.listener.take() {
-            Some(listener) => listener,
-            None => TcpListener::bind(&self.rt, self.address.as_str())?,
+        let mut hall = match self.hall.take() {
+            Some(hall) => hall,
+            None => Hall::open(&self.rt, self.alloc, self.address.as_str(), self.patience)?,
         };
-        let stream = next_stream(&listener);
-        self.listener = Some(listener);
-        stream
+        let given = hall.next(&self.rt);
+        self.hall = Some(hall);
+        given
     }
 }
 
-impl<R: Net<Listener = TcpListener, Stream = TcpStream>> Door for TcpDoor<R> {
+impl<R: Net<Listener = TcpListener, Stream = TcpStream> + Clock + Eprint> Door for TcpDoor<R> {
     ghost use Rattle.server_doors.specs.Devices.{tcp_door};
 
-    type In = StdSource<TcpStream>;
+    type In = TcpSource;
 
-    type Out = StdSink<TcpStream>;
+    type Out = TcpSink;
 
     ghost door = { tcp_door };
 
-    fn accept(&mut self) -> Result<(StdSource<TcpStream>, StdSink<TcpStream>), Failed> {
-        let accepted = match self.next() {
-            Ok(stream) => ends_of(self.alloc, stream),
-            Err(error) => Err(error),
-        };
+    fn accept(&mut self) -> Result<(TcpSource, TcpSink), Failed> {
+        let accepted = self.next();
         self.faults.counted(accepted)
     }
 
-    fn give_back(&mut self, _input: StdSource<TcpStream>, _output: StdSink<TcpStream>) {}
+    fn give_back(&mut self, input: TcpSource, output: TcpSink) {
+        if let Some(hall) = &mut self.hall {
+            hall.take_back(input, output);
+        }
+    }
 }

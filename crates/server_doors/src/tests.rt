@@ -1,9 +1,11 @@
 //! Each door gives a connection and takes it back.
+mod halls;
+
 use crate::{Door, MemoryDoor, TcpDoor};
 use news_io::{MemorySource, Sink, Source};
 use news_types::Text;
 use std::alloc::Global;
-use std::io::{Read, Write};
+use std::io::{self, Read, Write};
 use std::net::{Net, TcpListener, TcpStream};
 use std::test::Fail;
 use std::thread::{join, sleep};
@@ -49,18 +51,33 @@ fn connections_are_given_in_order(rt: HostRuntime) -> Result<(), Fail> {
     Ok(())
 }
 
-/// Sends a byte to an address as soon as somebody listens there, and reads one.
-fn ask<R: Net<Stream = TcpStream> + Clock>(rt: &R, address: &str, byte: u8) -> Option<u8> {
+/// Connects to an address as soon as somebody listens there.
+fn reach<R: Net<Stream = TcpStream> + Clock>(rt: &R, address: &str) -> io::Result<TcpStream> {
     for _ in 0..1000 {
-        if let Ok(mut stream) = TcpStream::connect(rt, address) {
-            let mut into = [byte];
-            stream.write_all(&into).ok()?;
-            stream.read_exact(&mut into).ok()?;
-            return Some(into[0]);
+        if let Ok(stream) = TcpStream::connect(rt, address) {
+            return Ok(stream);
         }
-        let _ = sleep(rt, Duration::from_millis(10));
+        sleep(rt, Duration::from_millis(10));
     }
-    None
+    TcpStream::connect(rt, address)
+}
+
+/// A client that never ends its head is closed. One whose body comes byte by byte is answered.
+fn ask<R: Net<Stream = TcpStream> + Clock>(rt: &R, address: &str) -> io::Result<u8> {
+    let mut into = [0];
+    let mut silent = reach(rt, address)?;
+    silent.write_all(b"GET /queue HTTP/1.1\r\n")?;
+    if silent.read(&mut into)? > 0 {
+        return Ok(0);
+    }
+    let mut slow = reach(rt, address)?;
+    slow.write_all(b"POST /requests HTTP/1.1\r\nContent-Length: 3\r\n\r\n")?;
+    for byte in b"abc" {
+        sleep(rt, Duration::from_millis(5));
+        slow.write_all(&[*byte])?;
+    }
+    slow.read_exact(&mut into)?;
+    Ok(into[0])
 }
 
 #[test]
@@ -70,11 +87,12 @@ fn a_door_over_tcp_listens(rt: HostRuntime) -> Result<(), Fail> {
     let address = format!(in alloc; "{}", free.local_addr()?)?;
     drop(free);
     let mut door = TcpDoor::new(alloc, rt, Text::copy_of(alloc, address.as_str())?);
+    door.patience = Duration::from_millis(500);
     let (echoed, read) = join(
         &rt,
         move || echo(&mut door),
-        || ask(&rt, address.as_str(), 7),
+        || ask(&rt, address.as_str()).ok(),
     );
-    assert_eq!(rt; (echoed, read), (Some(7), Some(7)));
+    assert_eq!(rt; (echoed, read), (Some(b'P'), Some(b'P')));
     Ok(())
 }

@@ -19,6 +19,3 @@ pub use job::{Job, JobDone};
 pub use parts::part;
 pub use roles::{Server, ServerEnd, close_at_last, run_roles};
 pub use teams::team;
-
-#[cfg(test)]
-mod tests;

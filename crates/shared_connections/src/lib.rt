@@ -6,8 +6,6 @@
 
 mod connection;
 mod serving;
-#[cfg(test)]
-mod tests;
 mod turns;
 
 pub use connection::serve_connection;

@@ -11,6 +11,3 @@ mod works;
 
 pub use tally::{Tally, worker_loop};
 pub use worker::{WorkerTurn, worker_turn};
-
-#[cfg(test)]
-mod tests;

@@ -97,7 +97,7 @@ fn claim<K: Keeper + Drop, R: Wait>(
         base: shared.base(),
         step: Step::Stopping { place: 0 },
     };
-    let pass = shared.with_turn(rt, pass, &mut claiming);
+    let pass = shared.with_turn_among(rt, pass, &mut claiming);
     (claiming.step, pass)
 }
 
@@ -132,7 +132,7 @@ fn keep<K: Keeper + Drop, R: Wait>(
         n,
         kept: Kept::Fault,
     };
-    let pass = shared.with_turn(rt, pass, &mut keeping);
+    let pass = shared.with_turn_among(rt, pass, &mut keeping);
     (worked_of(subscriber, k, n, reply, keeping.kept), pass)
 }
 

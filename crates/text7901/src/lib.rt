@@ -20,6 +20,3 @@ pub use found::{Found, What};
 pub use laws::{read_all, read_so_far};
 pub use reader::Reader;
 pub use writing::write;
-
-#[cfg(test)]
-mod tests;

@@ -17,6 +17,3 @@ pub use item::answer_item;
 pub use laws::decided_law;
 pub use run::{run_item, run_wire};
 pub use wire::answer_wire;
-
-#[cfg(test)]
-mod tests;

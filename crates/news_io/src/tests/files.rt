@@ -1,8 +1,9 @@
 //! Disks.
 use super::numbers;
-use crate::{Disk, Failed, FileDisk, MemoryDisk, Tear};
-use std::fs;
+use crate::{Access, Disk, Failed, FileDisk, Lock, MemoryDisk, NotOpened, Tear};
+use std::fs::{self, File};
 use std::process::Abort;
+use std::rt::Files;
 use std::test::Fail;
 
 const FOLDER: &str = "news_io_disk";
@@ -99,7 +100,9 @@ fn a_file_is_made_written_and_read(rt: HostRuntime) -> Result<(), Fail> {
     let _ = fs::remove_dir_all(&rt, FOLDER);
     fs::create_dir(&rt, FOLDER)?;
     let path = String::from_str(alloc, "news_io_disk/log")?;
-    let mut disk = FileDisk::new(rt, path);
+    let mut disk = FileDisk::new(rt, path, Access::Write);
+    assert_eq!(rt; disk.size(), Ok(0), "what is missing counts as empty");
+    assert_eq!(rt; disk.sync(), Ok(()));
     assert!(rt; !fs::exists(&rt, "news_io_disk/log")?);
     if writes_and_reads(&rt, &mut disk).is_err() {
         assert_eq!(rt; disk.fault_count(), 1);
@@ -110,10 +113,52 @@ fn a_file_is_made_written_and_read(rt: HostRuntime) -> Result<(), Fail> {
         "newsdesk!"
     );
     assert_eq!(rt; disk.fault_count(), 0);
-    let mut missing = FileDisk::new(rt, String::from_str(alloc, "news_io_disk/none/log")?);
-    assert_eq!(rt; missing.size(), Err(Failed));
+    let path = String::from_str(alloc, "news_io_disk/log")?;
+    let mut reader = FileDisk::new(rt, path, Access::Read);
+    assert_eq!(rt; reader.size(), Ok(9));
+    assert_eq!(rt; reader.write_at(0, b"x"), Err(Failed));
+    assert!(rt; reader.has_refused_write() && !disk.has_refused_write());
+    let path = String::from_str(alloc, "news_io_disk/none/log")?;
+    let mut missing = FileDisk::new(rt, path, Access::Write);
     assert_eq!(rt; missing.write_at(0, b"x"), Err(Failed));
-    assert_eq!(rt; missing.fault_count(), 2);
+    assert_eq!(rt; missing.fault_count(), 1);
     fs::remove_dir_all(&rt, FOLDER)?;
+    Ok(())
+}
+
+/// The folder of the files that are locked.
+const LOCKS: &str = "news_io_locks";
+
+/// A file of that folder, for this access.
+fn locked<R: Files<File = File> + AllocGlobal + Clone + Drop>(
+    rt: &R,
+    access: Access,
+) -> Result<FileDisk<R>, Fail> {
+    let path = String::from_str(rt.alloc(), "news_io_locks/log")?;
+    Ok(FileDisk::new(rt.clone()?, path, access))
+}
+
+#[test]
+fn two_opens_of_a_file_exclude_each_other(rt: HostRuntime) -> Result<(), Fail> {
+    let _ = fs::remove_dir_all(&rt, LOCKS);
+    fs::create_dir(&rt, LOCKS)?;
+    let mut early = locked(&rt, Access::Write)?;
+    assert_eq!(rt; early.open(Lock::Exclusive, false), Err(NotOpened::Missing));
+    assert!(rt; !fs::exists(&rt, "news_io_locks/log")?);
+    let mut first = locked(&rt, Access::Make)?;
+    let mut second = locked(&rt, Access::Write)?;
+    let mut reader = locked(&rt, Access::Read)?;
+    assert_eq!(rt; first.open(Lock::Exclusive, false), Ok(()));
+    assert_eq!(rt; second.open(Lock::Exclusive, false), Err(NotOpened::Held));
+    assert_eq!(rt; reader.open(Lock::Shared, false), Err(NotOpened::Held));
+    drop(first);
+    assert_eq!(rt; reader.open(Lock::Shared, false), Ok(()));
+    let mut other = locked(&rt, Access::Read)?;
+    assert_eq!(rt; other.open(Lock::Shared, true), Ok(()));
+    assert_eq!(rt; second.open(Lock::Exclusive, false), Err(NotOpened::Held));
+    drop(reader);
+    drop(other);
+    assert_eq!(rt; second.open(Lock::Exclusive, true), Ok(()));
+    fs::remove_dir_all(&rt, LOCKS)?;
     Ok(())
 }

@@ -8,6 +8,6 @@ use Rattle.entry_codec.proofs.writing.encode.Goals as goal
 pub overflow_cast-payload : goal.overflow_cast-payload
 overflow_cast-payload c =
     let e = c.args.entry.now in
-    let items = then _ _ _ (u64 e.moment) (act_bytes e.act) c.in_ok-put_u64.ensures c.in_ok-put_act.ensures.bytes ∙ ap (λ z. z ++ entry_bytes e) c.new-payload.ensures.items in
+    let items = then _ _ _ (u64 e.moment) (act_bytes e.act) c.in_ok-put_u64.ensures c.in_ok-put_act.ensures.bytes ∙ ap (λ z. z ++ entry_bytes e) c.in_ok-payload.ensures.items in
     let len : length c.as_slice-payload.result.now ≡ length (entry_bytes e) = ap length c.as_slice-payload.ensures.value ∙ ap length items in
     omega (arith, len, entry_len e (record { fits = c.requires; formed = c.in_ok-put_act.ensures.form }))

@@ -15,8 +15,8 @@ pub returns-in-Ok-clause-whole : goal.returns-in-Ok-clause-whole
 unfolding no_entry
 returns-in-Ok-clause-whole c = λ gate.
     let f = c.in-Ok.ensures.found in
-    let read : all_of entry c.args.payload.now ≡ Ok c.in-Ok.entry = ap (all_of entry) f.1 ∙ all_again entry IsEntry entry_lawful c.in-Ok.entry f.0 in
-    read_whole (gate, c.args.payload.now) (all_of entry c.args.payload.now) c.in-Ok.entry read
+    let read : all_of entry c.args.payload.now ≡ Ok f.0 = ap (all_of entry) f.2 ∙ all_again entry IsEntry entry_lawful f.0 f.1 in
+    read_whole (gate, c.args.payload.now) (all_of entry c.args.payload.now) f.0 read
 
 pub returns-in-Err-clause-fault : goal.returns-in-Err-clause-fault
 unfolding no_entry

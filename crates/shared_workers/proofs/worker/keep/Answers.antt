@@ -8,10 +8,10 @@ use Rattle.shared_workers.proofs.worker.keep.Goals as goal
 
 pub returns-clause-turn : goal.returns-clause-turn
 returns-clause-turn g c =
-    let t = c.with_turn-pass.ensures.turn in
+    let t = c.with_turn_among-pass.ensures.turn in
     let r = c.args.receipt in
-    let kept = c.with_turn-pass.new.work.kept in
-    let end = front c.with_turn-pass.result in (
+    let kept = c.with_turn_among-pass.new.work.kept in
+    let end = front c.with_turn_among-pass.result in (
       t.0,
       kept,
       c.worked_of.ensures,
@@ -20,7 +20,7 @@ returns-clause-turn g c =
           let found = found_by t.0 b end in
           let left = left_by t.0 b end in
           let step = t.2 b is in
-          let there = found_there b r.subscriber (front c.args.pass) (calls c.args.pass) end (calls c.with_turn-pass.result) t.0 t.1 (c.requires.there b is) in
+          let there = found_there b r.subscriber (front c.args.pass) (calls c.args.pass) end (calls c.with_turn_among-pass.result) t.0 t.1 (c.requires.there b is) in
           record {
             call = (found, left);
             calls_are = refl;

@@ -4,8 +4,8 @@ use Rattle.std.proofs.Common.{rules, ap, sym, subst, ◌∙◌}
 use Rattle.room_lock.proofs.Keeps.{passes}
 use Rattle.room_lock.proofs.shared.Shared.leave.Goals as goal
 
-pub fetch_add-requires : goal.fetch_add-requires
-fetch_add-requires g c = let e = c.exchange.ensures.3 in (
+pub fetch_add-served-requires : goal.fetch_add-served-requires
+fetch_add-served-requires g c = let e = c.exchange.ensures.3 in (
   search rules,
   search rules,
   passes (Since g.T.StandsFor.stands (g.T.StandsFor.stands c.args.self.now.table.shared.key.value)) _ _ c.exchange.new.seat.me c.args.room _ (search rules)

@@ -1,0 +1,72 @@
+//! The options of a command.
+ghost use Rattle.std.specs.Prelude.{◌≡◌};
+ghost use Rattle.command_words.specs.Words.{no_options, options_count, options_of};
+ghost use Rattle.command_words.specs.Words as spec;
+
+use news_types::Text;
+
+/// What stands between a command's name and its other words.
+#[derive(Clone, Copy, Debug, PartialEq, Eq)]
+pub struct Options {
+    /// `--wait`: the command waits for its store while another program has it.
+    pub waits: bool,
+    /// `--beside`: the command reads a store that is being served.
+    pub beside: bool,
+}
+
+/// The options of these words, which stand directly behind the command's name, in any order: nothing where one stands twice.
+pub fn read_options(words: &[Text]) -> Option<Options>
+    ensures { result ≡ options_of words.now }
+{
+    let [_, words @ ..] = words else {
+        return None;
+    };
+    options_behind(words, Options::none())
+}
+
+/// The options at the front of these words, behind those that were found.
+fn options_behind(words: &[Text], found: Options) -> Option<Options>
+    ensures { result ≡ spec.options_behind found words.now }
+{
+    let [word, words @ ..] = words else {
+        return Some(found);
+    };
+    match word.as_str() {
+        "--wait" if found.waits => None,
+        "--beside" if found.beside => None,
+        "--wait" => options_behind(
+            words,
+            Options {
+                waits: true,
+                beside: found.beside,
+            },
+        ),
+        "--beside" => options_behind(
+            words,
+            Options {
+                waits: found.waits,
+                beside: true,
+            },
+        ),
+        _ => Some(found),
+    }
+}
+
+impl Options {
+    /// No option.
+    pub fn none() -> Options
+        ensures { result ≡ no_options }
+    {
+        Options {
+            waits: false,
+            beside: false,
+        }
+    }
+
+    /// How many words they are.
+    pub fn count(self) -> usize
+        ensures { result ≡ options_count self }
+    {
+        self.waits as usize + self.beside as usize
+    }
+}

@@ -1,0 +1,8 @@
+//! Tests of the forms in which news, entries and frames come and go: wires, items, requests over HTTP, logs, frames and receipts.
+//!
+//! Most of their rows are lines of `desk_sessions`, `lines_table` and `plain_server`, which the gate runs. Here are those that no
+//! input of a program can show.
+#![tactic(auto)]
+
+#[cfg(test)]
+mod tests;

@@ -1,6 +1,0 @@
-use Rattle.news_room.proofs.tests.ingests.bring.Goals as goal
-
-pub returns : goal.returns
-returns g c =
-    let e = c.ingest.ensures in
-    (_, (e.1 c.requires.0 c.requires.1).stands)

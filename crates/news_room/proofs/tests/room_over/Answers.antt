@@ -1,7 +1,0 @@
-use mathlib.Core.Bool.{false, false≢true}
-use Rattle.news_room.proofs.tests.room_over.Goals as goal
-
-pub returns : goal.returns
-returns g c =
-    let o = c.in-Ok.ensures in
-    (_, o.stands false (λ e. absurd (false≢true e)))

@@ -1,5 +1,0 @@
-use Rattle.std.proofs.Common.{[], refl}
-use Rattle.room_threads.proofs.tests.FlashingWorkRoomMemoryKeeper.turn.Goals as goal
-
-pub returns-in_default : goal.returns-in_default
-returns-in_default c = ([], λ b is. (is, ([], refl)))

@@ -1,0 +1,6 @@
+use Rattle.server_tests.proofs.devices.claim.Goals as goal
+
+pub returns : goal.returns
+returns g c =
+    let e = c.claim.ensures in
+    (_, (e.1 c.requires.0 c.requires.1).stands)

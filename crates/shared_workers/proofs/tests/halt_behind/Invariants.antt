@@ -1,8 +1,0 @@
-use Rattle.std.proofs.Common.{◌≡◌}
-use Rattle.room_lock.specs.Locks.{lock_of}
-use Rattle.shared_workers.proofs.tests.halt_behind.Given as goal
-
-abbrev pub invariant-loop : goal.invariant-loop
-invariant-loop g l =
-    (goal.iterator-loop g).can_next l.iterator' × (goal.iterator-loop g).is_finite l.iterator'
-    × (lock_of l.pass ≡ lock_of l.initial.pass)
