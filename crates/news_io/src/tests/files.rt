@@ -94,71 +94,108 @@ fn a_crash_tears_what_was_not_synced(rt: HostRuntime) -> Result<(), Fail> {
     Ok(())
 }
 
+/// A disk over a file, if there is memory for it.
+fn file_of<R: Files<File = File> + AllocGlobal + Clone + Drop>(
+    rt: &R,
+    path: &str,
+    access: Access,
+) -> Option<FileDisk<R>> {
+    let path = String::from_str(rt.alloc(), path).ok()?;
+    Some(FileDisk::new(rt.clone().ok()?, path, access))
+}
+
+/// A missing file counts as empty, and is made by the first write and read back: how many calls failed.
+fn makes_a_file<R: Files<File = File> + AllocGlobal + Clone + Drop + Abort>(rt: &R) -> Option<u64> {
+    let mut disk = file_of(rt, "news_io_disk/log", Access::Write)?;
+    let early = disk.sync();
+    let failed = writes_and_reads(rt, &mut disk).is_err();
+    assert!(rt; early == Ok(()) && !failed && !disk.has_refused_write());
+    let faults = disk.fault_count();
+    drop(disk);
+    Some(faults)
+}
+
+/// What a file that is only to be read answers: its size and a write, and whether it refused that.
+fn reads_a_file<R: Files<File = File> + AllocGlobal + Clone + Drop>(
+    rt: &R,
+) -> Option<(Result<u64, Failed>, Result<(), Failed>, bool)> {
+    let mut disk = file_of(rt, "news_io_disk/log", Access::Read)?;
+    let answers = (
+        disk.size(),
+        disk.write_at(0, b"x"),
+        disk.has_refused_write(),
+    );
+    drop(disk);
+    Some(answers)
+}
+
+/// How many faults a write into a folder counts that is not there.
+fn misses_a_folder<R: Files<File = File> + AllocGlobal + Clone + Drop>(rt: &R) -> Option<u64> {
+    let mut disk = file_of(rt, "news_io_disk/none/log", Access::Write)?;
+    let _ = disk.write_at(0, b"x");
+    let faults = disk.fault_count();
+    drop(disk);
+    Some(faults)
+}
+
 #[test]
 fn a_file_is_made_written_and_read(rt: HostRuntime) -> Result<(), Fail> {
-    let alloc = rt.alloc();
     let _ = fs::remove_dir_all(&rt, FOLDER);
     fs::create_dir(&rt, FOLDER)?;
-    let path = String::from_str(alloc, "news_io_disk/log")?;
-    let mut disk = FileDisk::new(rt, path, Access::Write);
-    assert_eq!(rt; disk.size(), Ok(0), "what is missing counts as empty");
-    assert_eq!(rt; disk.sync(), Ok(()));
-    assert!(rt; !fs::exists(&rt, "news_io_disk/log")?);
-    if writes_and_reads(&rt, &mut disk).is_err() {
-        assert_eq!(rt; disk.fault_count(), 1);
-        return Err(Fail::new("a call of the system failed"));
-    }
-    assert_eq!(rt;
-        fs::read_to_string(&rt, "news_io_disk/log")?.as_str(),
-        "newsdesk!"
-    );
-    assert_eq!(rt; disk.fault_count(), 0);
-    let path = String::from_str(alloc, "news_io_disk/log")?;
-    let mut reader = FileDisk::new(rt, path, Access::Read);
-    assert_eq!(rt; reader.size(), Ok(9));
-    assert_eq!(rt; reader.write_at(0, b"x"), Err(Failed));
-    assert!(rt; reader.has_refused_write() && !disk.has_refused_write());
-    let path = String::from_str(alloc, "news_io_disk/none/log")?;
-    let mut missing = FileDisk::new(rt, path, Access::Write);
-    assert_eq!(rt; missing.write_at(0, b"x"), Err(Failed));
-    assert_eq!(rt; missing.fault_count(), 1);
+    assert_eq!(rt; makes_a_file(&rt), Some(0));
+    assert!(rt; fs::read_to_string(&rt, "news_io_disk/log")?.as_str() == "newsdesk!");
+    assert!(rt; reads_a_file(&rt) == Some((Ok(9), Err(Failed), true)));
+    assert_eq!(rt; misses_a_folder(&rt), Some(1));
     fs::remove_dir_all(&rt, FOLDER)?;
     Ok(())
 }
 
-/// The folder of the files that are locked.
+/// The folder of the file that is locked, and that file.
 const LOCKS: &str = "news_io_locks";
 
-/// A file of that folder, for this access.
-fn locked<R: Files<File = File> + AllocGlobal + Clone + Drop>(
+const LOCKED: &str = "news_io_locks/log";
+
+/// What taking a lock on the file comes to, which is given back again.
+fn tried<R: Files<File = File> + AllocGlobal + Clone + Drop>(
     rt: &R,
     access: Access,
-) -> Result<FileDisk<R>, Fail> {
-    let path = String::from_str(rt.alloc(), "news_io_locks/log")?;
-    Ok(FileDisk::new(rt.clone()?, path, access))
+    lock: Lock,
+) -> Option<Result<(), NotOpened>> {
+    let mut disk = file_of(rt, LOCKED, access)?;
+    let taken = disk.open(lock, false);
+    drop(disk);
+    Some(taken)
+}
+
+/// What this lock on the file comes to, and an exclusive and a shared one beside it.
+fn beside<R: Files<File = File> + AllocGlobal + Clone + Drop>(
+    rt: &R,
+    held: Lock,
+) -> Option<
+    (
+        Result<(), NotOpened>,
+        Option<Result<(), NotOpened>>,
+        Option<Result<(), NotOpened>>,
+    ),
+> {
+    let mut disk = file_of(rt, LOCKED, Access::Make)?;
+    let taken = disk.open(held, false);
+    let exclusive = tried(rt, Access::Write, Lock::Exclusive);
+    let shared = tried(rt, Access::Read, Lock::Shared);
+    drop(disk);
+    Some((taken, exclusive, shared))
 }
 
 #[test]
 fn two_opens_of_a_file_exclude_each_other(rt: HostRuntime) -> Result<(), Fail> {
     let _ = fs::remove_dir_all(&rt, LOCKS);
     fs::create_dir(&rt, LOCKS)?;
-    let mut early = locked(&rt, Access::Write)?;
-    assert_eq!(rt; early.open(Lock::Exclusive, false), Err(NotOpened::Missing));
-    assert!(rt; !fs::exists(&rt, "news_io_locks/log")?);
-    let mut first = locked(&rt, Access::Make)?;
-    let mut second = locked(&rt, Access::Write)?;
-    let mut reader = locked(&rt, Access::Read)?;
-    assert_eq!(rt; first.open(Lock::Exclusive, false), Ok(()));
-    assert_eq!(rt; second.open(Lock::Exclusive, false), Err(NotOpened::Held));
-    assert_eq!(rt; reader.open(Lock::Shared, false), Err(NotOpened::Held));
-    drop(first);
-    assert_eq!(rt; reader.open(Lock::Shared, false), Ok(()));
-    let mut other = locked(&rt, Access::Read)?;
-    assert_eq!(rt; other.open(Lock::Shared, true), Ok(()));
-    assert_eq!(rt; second.open(Lock::Exclusive, false), Err(NotOpened::Held));
-    drop(reader);
-    drop(other);
-    assert_eq!(rt; second.open(Lock::Exclusive, true), Ok(()));
+    let missing = tried(&rt, Access::Write, Lock::Exclusive);
+    assert!(rt; missing == Some(Err(NotOpened::Missing)) && !fs::exists(&rt, LOCKED)?);
+    let (taken, held) = (Some(Ok(())), Some(Err(NotOpened::Held)));
+    assert!(rt; beside(&rt, Lock::Exclusive) == Some((Ok(()), held, held)));
+    assert!(rt; beside(&rt, Lock::Shared) == Some((Ok(()), held, taken)));
+    assert!(rt; beside(&rt, Lock::Unlocked) == Some((Ok(()), taken, taken)));
     fs::remove_dir_all(&rt, LOCKS)?;
     Ok(())
 }
