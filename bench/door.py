@@ -6,7 +6,8 @@ PROGRAM serves STORE, which is made by `init` if it is not there, at a port of t
 - sixty clients send a byte a second each, and another one asks beside them, again and again;
 - requests whose end two readers may see at different places are sent, each with one behind it, and the statuses of the answers are compared;
 - the sixty are closed behind their minute;
-- 2,000 connections are made over which nothing is sent, and one more asks.
+- 2,000 connections are made over which nothing is sent, and one more asks;
+- PROGRAM serves STORE again, with `--key`, and requests with and without the key are sent; files without a key are refused.
 
 Prints a line for each, and exits with 1 where one is not as it should be. It takes a minute and a half.
 """
@@ -40,6 +41,12 @@ def long(body):
     return b"Content-Length: %d" % len(body)
 
 
+def with_key(request, key, name=b"X-Key"):
+    """The request with this line behind its first one."""
+    first, rest = request.split(b"\r\n", 1)
+    return b"%b\r\n%b: %b\r\n%b" % (first, name, key, rest)
+
+
 # what is sent, in pieces, and the statuses of the answers. Behind what is no request nothing is answered.
 SHAPES = {
     "two lengths that differ": ([post(b"{}", b"Content-Length: 2", long(b"{}" + LAST)) + LAST], [400]),
@@ -64,6 +71,44 @@ SHAPES = {
     "a head without its last byte": ([QUEUE[:-1], QUEUE[-1:] + LAST], [200, 200]),
     "a body byte by byte": ([post(b"", b"Content-Length: 2"), b"{", b"}", LAST], [400, 200]),
     "64 at once, and one more": ([64 * QUEUE + LAST], 64 * [200]),
+}
+
+
+KEY = b"0123456789abcdef"
+# so are these, of a server that asks for the key: a request without it is answered 403, and nothing behind it
+KEYS = {
+    "no key": ([LAST], [403]),
+    "a wrong key of the same length": ([with_key(LAST, KEY[:-1] + b"0")], [403]),
+    "the key without its last byte": ([with_key(LAST, KEY[:-1])], [403]),
+    "the key and one byte more": ([with_key(LAST, KEY + b"0")], [403]),
+    "an empty key": ([with_key(LAST, b"")], [403]),
+    "the right key": ([with_key(LAST, KEY)], [200]),
+    "the right key in capitals": ([with_key(LAST, KEY.upper())], [403]),
+    "the right key under a name in capitals, with blanks around it": ([with_key(LAST, b"\t " + KEY + b" \t", b"X-KEY")], [200]),
+    "a space before the colon of the key": ([with_key(LAST, KEY, b"X-Key ")], [403]),
+    "a folded key": ([with_key(LAST, b"\r\n " + KEY)], [403]),
+    "the right key twice": ([with_key(with_key(LAST, KEY), KEY)], [403]),
+    "a wrong key and the right one": ([with_key(with_key(LAST, KEY), KEY[::-1])], [403]),
+    "the right key and a wrong one": ([with_key(with_key(LAST, KEY[::-1]), KEY)], [403]),
+    "the right key in a body alone": ([post(with_key(LAST, KEY), long(with_key(LAST, KEY)))], [403]),
+    "the right key twice behind each other": ([with_key(QUEUE, KEY) + with_key(LAST, KEY)], [200, 200]),
+    "the right key, none, and the right one": ([with_key(QUEUE, KEY) + QUEUE + with_key(LAST, KEY)], [200, 403]),
+    "the right key, and later none": ([with_key(QUEUE, KEY), QUEUE], [200, 403]),
+    "the right key with a body, and none": ([with_key(post(b"{}", b"Content-Length: 2"), KEY) + LAST], [400, 403]),
+    "half a head with the right key": ([with_key(QUEUE, KEY)[:-10], with_key(QUEUE, KEY)[-10:] + with_key(LAST, KEY)], [200, 200]),
+    "the right key and a length with a sign": ([with_key(post(b"{}", b"Content-Length: +2"), KEY) + LAST], [400]),
+    "no key and a length with a sign": ([post(b"{}", b"Content-Length: +2") + LAST], [403]),
+    "the right key, and a head of 16384 bytes without an end": ([with_key(QUEUE, KEY) + QUEUE[:-2] + 16_384 * b"a"], [200, 403]),
+    "the right key, 64 at once, and one more": ([64 * with_key(QUEUE, KEY) + with_key(LAST, KEY)], 64 * [200]),
+}
+# what a file has for which no server starts, and the status that tells it; nothing where there is no file
+NO_KEYS = {
+    "no file for the key": (None, 6),
+    "an empty file for the key": (b"", 2),
+    "a key behind an empty line": (b"\n" + KEY, 2),
+    "a key of 1025 bytes": (1_025 * b"a" + b"\n", 2),
+    "a key with a space": (KEY + b" " + KEY + b"\n", 2),
+    "a key with a byte above 126": (KEY + b"\x7f\n", 2),
 }
 
 
@@ -235,12 +280,47 @@ def free_port():
             pass
 
 
-def wait_for(port):
+def wait_for(port, status):
     for _ in range(600):
-        if ask(port, 10.0)[1] == 200:
+        if ask(port, 10.0)[1] == status:
             return
         time.sleep(0.1)
     sys.exit("the server does not answer after a minute")
+
+
+def keyed(rows, program, store):
+    """A server that asks for a key, and files in which there is none."""
+    address = f"127.0.0.1:{free_port()}"
+    with tempfile.TemporaryDirectory() as folder:
+        for number, (name, (content, wanted)) in enumerate(NO_KEYS.items()):
+            file = os.path.join(folder, str(number))
+            if content is not None:
+                with open(file, "wb") as out:
+                    out.write(content)
+            words = [program, "serve", "--key", file, store, address, "1"]
+            done = subprocess.run(words, stdout=subprocess.PIPE, stderr=subprocess.PIPE, text=True, timeout=60)
+            told_so = (done.returncode, done.stdout, done.stderr.count("\n")) == (wanted, f'{{"status":{wanted}}}\n', 1)
+            rows.add(name, f"{done.returncode} {done.stderr.strip()}", told_so)
+        file = os.path.join(folder, "key")
+        for end in (b"", b"\n", b"\r\n", b"\nsecond\n"):
+            with open(file, "wb") as out:
+                out.write(KEY + end)
+            asked_for_key(rows, [program, "serve", "--key", file, store], KEYS if end == b"\n" else {"the right key": KEYS["the right key"]})
+        for words in (["check", "--key", file, store], ["serve", "--key", file, "--key", file, store, address, "1"], ["serve", "--key", store]):
+            done = subprocess.run([program, *words], stdout=subprocess.PIPE, text=True, timeout=60)
+            rows.add(" ".join(word for word in words if word not in (file, store, address)), done.returncode, done.returncode == 2)
+
+
+def asked_for_key(rows, words, shapes):
+    port = free_port()
+    with subprocess.Popen([*words, f"127.0.0.1:{port}", "1"], stdout=subprocess.DEVNULL, stderr=subprocess.DEVNULL) as process:
+        try:
+            wait_for(port, 403)
+            for name, (pieces, wanted) in shapes.items():
+                seen = told(pieces, port)
+                rows.add(name, seen if len(seen) < 9 else f"{len(seen)} answers", seen == wanted)
+        finally:
+            process.kill()
 
 
 def memory(process):
@@ -263,7 +343,7 @@ def main():
         words = [program, "serve", store, f"127.0.0.1:{port}", "1"]
         with subprocess.Popen(words, stdout=subprocess.DEVNULL, stderr=said) as process:
             try:
-                wait_for(port)
+                wait_for(port, 200)
                 beside_slow(rows, port)
                 flood(rows, port, process)
                 rows.add("the server's memory at most", memory(process), process.poll() is None)
@@ -275,6 +355,7 @@ def main():
     rows.add("lines on standard error", len(lines), len(lines) <= minutes + 1)
     for line in lines:
         print("    " + line)
+    keyed(rows, program, store)
     sys.exit(rows.failed)
 
 

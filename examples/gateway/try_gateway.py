@@ -21,6 +21,7 @@ HERE = os.path.dirname(os.path.abspath(__file__))
 TOP = os.path.dirname(os.path.dirname(HERE))
 NEWSDESK = os.environ.get("NEWSDESK", os.path.join(TOP, "newsdesk"))
 STORE = "6ba7b810-9dad-11d1-80b4-00c04fd430c8"
+KEY = "0f1e2d3c4b5a69788796a5b4c3d2e1f0"
 PASSWORDS = {"ana": "a-1", "alpha": "b-2", "beta": "c-3", "zoe": "d-4"}
 SETUP = (
     {"do": "add_user", "user": "ana", "privileges": ["publish"]},
@@ -98,6 +99,10 @@ class House:
         status, answers = newsdesk(self.folder, ["batch", "news"], lines)
         expect("its users and subscribers", (status, answers.count('"done"')), (0, len(SETUP)))
 
+    def make_key(self):
+        with open(self.at("key"), "w", encoding="ascii") as file:
+            file.write(KEY + "\n")
+
     def start_receivers(self):
         for name, door in zip(("alpha", "beta"), self.doors):
             self.start([sys.executable, os.path.join(os.path.dirname(HERE), "receiver.py"), name, self.at(name), str(door)])
@@ -105,11 +110,13 @@ class House:
 
     def serve(self):
         pairs = [word for name, door in zip(("alpha", "beta"), self.doors) for word in (name, f"127.0.0.1:{door}")]
-        self.server = self.start([NEWSDESK, "serve", "news", f"127.0.0.1:{self.port}", "2", *pairs], stdout=subprocess.PIPE, text=True)
+        self.server = self.start([NEWSDESK, "serve", "--key", "key", "news", f"127.0.0.1:{self.port}", "2", *pairs], stdout=subprocess.PIPE, text=True)
         eventually("the server listens", lambda: listens(self.port))
 
     def make_gateway(self):
-        """The site of this folder, with its paths and ports exchanged for those of the test."""
+        """The site of this folder, with its paths and ports exchanged for those of the test, and its key."""
+        with open(self.at("newsdesk.gate"), "w", encoding="utf-8") as file:
+            file.write(f'proxy_set_header X-Key "{KEY}";\n')
         key, certificate, users = self.at("newsdesk.key"), self.at("newsdesk.crt"), self.at("newsdesk.users")
         subject = ["-subj", "/CN=news.example", "-addext", "subjectAltName=DNS:news.example"]
         words = ["openssl", "req", "-x509", "-newkey", "rsa:2048", "-nodes", "-days", "1", *subject, "-keyout", key, "-out", certificate]
@@ -142,11 +149,16 @@ class House:
         answer, status = done.stdout.rsplit("\n", 1)
         return int(status), answer
 
+    def past_the_gateway(self, *words):
+        """The status of a question that comes to the server's port, and not through the gateway."""
+        words = ["curl", "-q", "-s", "-o", os.devnull, "-w", "%{http_code}", "-H", "X-User: ana", *words, f"http://127.0.0.1:{self.port}/queue"]
+        return int(subprocess.run(words, stdout=subprocess.PIPE, text=True).stdout)
+
     def request(self, caller, value, *words):
         return self.curl(caller, "/requests", *words, body=json.dumps(value))
 
     def stop(self):
-        subprocess.run([os.path.join(HERE, "stop.py"), f"127.0.0.1:{self.port}", "operator", str(self.server.pid)], check=True)
+        subprocess.run([os.path.join(HERE, "stop.py"), "--key", self.at("key"), f"127.0.0.1:{self.port}", "operator", str(self.server.pid)], check=True)
 
     def end(self):
         for process in reversed(self.running):
@@ -165,6 +177,10 @@ def try_callers(house):
     no_right = (403, '{"answer":"denied","denial":"NoPrivilege","number":4,"privilege":"desks"}')
     feed = (200, '{"answer":"feed","entries":[],"length":0,"subscriber":"alpha"}')
     expect("a caller without a name", house.curl(None, "/queue")[0], 401)
+    expect("a question that comes past the gateway", house.past_the_gateway(), 403)
+    expect("one with another key", house.past_the_gateway("-H", "X-Key: " + KEY[::-1]), 403)
+    expect("one with the key", house.past_the_gateway("-H", "X-Key: " + KEY), 200)
+    expect("ana with a key of her own", house.curl("ana", "/queue", "-H", "X-Key: 1")[0], 200)
     expect("a wrong password", house.curl("ana", "/queue", password="wrong")[0], 401)
     expect("a wrong password and another name", house.curl("ana", "/queue", "-H", "X-User: ana", password="wrong")[0], 401)
     expect("a question by one whom newsdesk does not know", house.curl("zoe", "/queue"), (403, ""))
@@ -244,6 +260,7 @@ def main():
         house = House(folder)
         try:
             house.make_store()
+            house.make_key()
             house.start_receivers()
             house.serve()
             house.make_gateway()

@@ -3,7 +3,7 @@ use Rattle.std.specs.Prelude.{ℕ, ◌+◌, Bool, true, false, not, ◌==◌, �
 use Rattle.std.specs.Char.{is_ascii_digit}
 use Rattle.std.specs.List.{list_all, starts_with}
 use Rattle.std.specs.Str.Parse.{digits_value}
-use Rattle.std.specs.Option.{option_map}
+use Rattle.std.specs.Option.{is_some, option_map}
 use Rattle.uuid.specs.Text.{parsed}
 use Rattle.news_types.specs.declared.words.Format.{Format}
 use Rattle.news_types.specs.declared.words.Format.TheVariants.{Ninjs, Text7901}
@@ -120,23 +120,36 @@ job_of (verb ∷ first ∷ words) =
 job_of words = None
 
 abbrev pub no_options : Options
-no_options = record { waits = false; beside = false }
+no_options = record { waits = false; beside = false; key = None }
+
+-- how many words `--key` and its FILE are
+abbrev pub key_count : Option ℕ → ℕ
+key_count (Some place) = 2
+key_count None = 0
 
 -- how many words they are
 abbrev pub options_count : Options → ℕ
-options_count found = (if found.waits then 1 else 0) + (if found.beside then 1 else 0)
+options_count found = (if found.waits then 1 else 0) + (if found.beside then 1 else 0) + key_count found.key
 
--- the options at the front of these words, behind those that were found: each at most once
-abbrev pub options_behind : Options → List Bytes → Option Options
-options_behind found [] = Some found
-options_behind found (word ∷ words) =
-    if same word (codes "--wait") then (if found.waits then None else options_behind (record { waits = true; beside = found.beside }) words)
-    else (if same word (codes "--beside") then (if found.beside then None else options_behind (record { waits = found.waits; beside = true }) words)
-    else Some found)
+-- these, and `--key` and its FILE behind them: the command's name is word 0, and the options follow it
+abbrev pub with_key : Options → Options
+with_key found = record { waits = found.waits; beside = found.beside; key = Some (options_count found + 2) }
+
+-- the options at the front of these words, behind those that were found: each at most once. Behind `--key` the first word is its FILE: any
+-- word but an option
+abbrev pub options_behind : Options → Bool → List Bytes → Option Options
+options_behind found false [] = Some found
+options_behind found true [] = None
+options_behind found true (file ∷ words) = if is_option file then None else options_behind (with_key found) false words
+options_behind found false (word ∷ words) =
+    if same word (codes "--wait") then (if found.waits then None else options_behind (record { waits = true; beside = found.beside; key = found.key }) false words)
+    else (if same word (codes "--beside") then (if found.beside then None else options_behind (record { waits = found.waits; beside = true; key = found.key }) false words)
+    else (if same word (codes "--key") then (if is_some found.key then None else options_behind found true words)
+    else Some found))
 
 -- the options of a command: they stand directly behind its name
 abbrev pub options_of : List Bytes → Option Options
-options_of (verb ∷ words) = options_behind no_options words
+options_of (verb ∷ words) = options_behind no_options false words
 options_of [] = None
 
 -- what a server is to do: where it listens, how many workers push the feeds, and the names and addresses of the receivers by turns

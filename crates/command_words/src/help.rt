@@ -29,7 +29,7 @@ const DRAIN: &str =
 ";
 
 const SERVE: &str =
-    "newsdesk serve STORE ADDRESS WORKERS NAME ADDRESS ..    answer requests over HTTP at ADDRESS, a host and a port, and push what is due to these receivers, each with its host and port, by so many workers, until a stop
+    "newsdesk serve STORE ADDRESS WORKERS NAME ADDRESS ..    answer requests over HTTP at ADDRESS, a host and a port, and push what is due to these receivers, each with its host and port, by so many workers, until a stop; with --key FILE directly behind serve, each request has to have the first line of FILE as its header X-Key
 ";
 
 const RECEIVE: &str =
@@ -52,8 +52,8 @@ const TAIL: &str = "newsdesk --help                         say this
 newsdesk COMMAND --help                 say the line of one command
 newsdesk --version                      say the version
 
-Options stand directly behind COMMAND: with --wait it waits for a STORE that another program has, and `check --beside STORE` reads one
-that is being served.
+Options stand directly behind COMMAND: with --wait it waits for a STORE that another program has, `check --beside STORE` reads one
+that is being served, and `serve --key FILE STORE ..` answers only who sends the first line of FILE as the header X-Key.
 
 A line of `batch` is a request, as
   {\"by\":\"admin\",\"number\":1,\"do\":\"add_subscriber\",\"subscriber\":\"alpha\",\"format\":\"ninjs\",\"products\":[\"all\"]}

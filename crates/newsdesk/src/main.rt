@@ -7,9 +7,11 @@ ghost use Rattle.news_pair.specs.Keeper.{pair_of};
 ghost use Rattle.news_room.specs.Stands.{SomeBook};
 
 mod descriptors;
+mod key;
 mod store;
 
 use crate::descriptors::hold_descriptors;
+use crate::key::read_key;
 use crate::store::{Keeping, keeping_of, open_files};
 use command_words::{
     Options, Serving, command_help, help_texts, read_options, read_serving, read_words,
@@ -47,13 +49,13 @@ fn main(rt: HostRuntime) -> ExitCode {
     let Ok(mut output) = StdSink::new(alloc, io::writer(&rt)) else {
         return ExitCode::from(Status::Memory.number());
     };
-    let Some(options) = take_options(&mut words) else {
+    let Some((options, key)) = take_options(&mut words) else {
         return ExitCode::from(tell_status(&mut output, Status::Usage));
     };
     let Some(serving) = read_serving(&words) else {
         return ExitCode::from(start(&rt, alloc, &words, options, &mut output, shows));
     };
-    let status = match server_of(&rt, alloc, &words, options, serving) {
+    let status = match server_of(&rt, alloc, &words, options, key, serving) {
         Ok(setup) => run_serve(&rt, alloc, setup, &mut output).status.number(),
         Err(status) => tell_status(&mut output, status),
     };
@@ -61,18 +63,23 @@ fn main(rt: HostRuntime) -> ExitCode {
     ExitCode::from(status)
 }
 
-/// Takes the options out of the words; nothing where one stands twice.
-fn take_options(words: &mut Vec<Text>) -> Option<Options> {
+/// Takes the options out of the words, and gives them with the FILE of `--key`; nothing where they are none.
+fn take_options(words: &mut Vec<Text>) -> Option<(Options, Option<Text>)> {
     let options = match words.is_empty() {
         true => Options::none(),
         false => read_options(words)?,
     };
-    for _ in 0..options.count() {
+    let key = match options.key {
+        Some(place) if place < words.len() => Some(words.remove(place)),
+        Some(_) => return None,
+        None => None,
+    };
+    for _ in key.is_some() as usize..options.count() {
         if words.len() > 1 {
             drop(words.remove(1));
         }
     }
-    Some(options)
+    Some((options, key))
 }
 
 /// Why there is no command to do.
@@ -130,7 +137,7 @@ fn start<
         return tell_status(output, Status::Usage);
     };
     let keeping = keeping_of(job);
-    if !keeping.allows(options) {
+    if options.key.is_some() || !keeping.allows(options) {
         return tell_status(output, Status::Usage);
     }
     match open_files(rt, alloc, words, keeping, options) {
@@ -231,6 +238,7 @@ fn server_of<
     alloc: Global,
     words: &[Text],
     options: Options,
+    key: Option<Text>,
     serving: Serving<'_>,
 ) -> Result<Newsdesk<R>, Status>
     ensures stands { IfOk result (λ setup. SomeBook (pair_of file_disk) setup.room) }
@@ -239,12 +247,16 @@ fn server_of<
     if !Keeping::Writes.allows(options) {
         return Err(Status::Usage);
     }
+    let key = match key {
+        Some(file) => Some(read_key(rt, alloc, file.as_str())?),
+        None => None,
+    };
     let (log, side) = open_files(rt, alloc, words, Keeping::Writes, options)?;
     let room = match open_store(alloc, log, side) {
         Ok(room) => room,
         Err((status, _, _)) => return Err(status),
     };
-    let Ok((door, clocks, links)) = outside_of(rt, alloc, serving) else {
+    let Ok((door, clocks, links)) = outside_of(rt, alloc, key, serving) else {
         return Err(Status::Memory);
     };
     Ok(Setup {
@@ -255,16 +267,17 @@ fn server_of<
     })
 }
 
-/// A door at the address, a clock for each role, and a link over all receivers for each worker.
+/// A door at the address, which asks for the key if there is one, a clock for each role, and a link over all receivers for each worker.
 fn outside_of<R: Net<Listener = TcpListener, Stream = TcpStream> + Clock + Clone + Drop>(
     rt: &R,
     alloc: Global,
+    key: Option<Text>,
     serving: Serving<'_>,
 ) -> Result<(TcpDoor<R>, Vec<StdClock<R>>, Vec<TcpLink<R>>), Memory>
     ensures { IfOk result (λ made. vec_len made.1 ≡ vec_len made.2 + 1) }
 {
     let address = Text::copy_of(alloc, serving.address.as_str())?;
-    let door = TcpDoor::new(alloc, rt.clone()?, address);
+    let door = TcpDoor::new(alloc, rt.clone()?, address).with_key(key);
     let mut clocks = Vec::new(alloc);
     clocks.push(StdClock::new(rt.clone()?))?;
     let mut links = Vec::new(alloc);

@@ -40,7 +40,7 @@ pub fn keeping_of(job: Job) -> Keeping {
 }
 
 impl Keeping {
-    /// Whether a command that does so has these options.
+    /// Whether a command that does so has these options, but for `--key`, which is for `serve` alone.
     pub fn allows(self, options: Options) -> bool {
         match self {
             Keeping::Nothing => !options.waits && !options.beside,

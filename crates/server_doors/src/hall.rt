@@ -1,5 +1,5 @@
 //! The connections that a door reads beside each other.
-use crate::held::{Fate, Held};
+use crate::held::{Fate, Held, Terms};
 use crate::tcp_sink::TcpSink;
 use crate::tcp_source::TcpSource;
 use mio::net::{TcpListener, TcpStream};
@@ -153,11 +153,14 @@ impl Hall {
     }
 
     /// Takes each connection on, and lets those go that have ended.
-    fn go_on(&mut self, now: Instant) {
-        let patience = self.patience;
+    fn go_on(&mut self, now: Instant, key: Option<&[u8]>) {
+        let terms = Terms {
+            patience: self.patience,
+            key,
+        };
         let mut lost = 0u64;
         self.held.retain_mut(|one| {
-            let fate = one.go_on(now, patience);
+            let fate = one.go_on(now, terms);
             if fate == Fate::Fails {
                 lost = lost.saturating_add(1);
             }
@@ -188,8 +191,12 @@ impl Hall {
         Ok(())
     }
 
-    /// The next connection whose request is whole. It waits for one.
-    pub(crate) fn next<R: Clock + Eprint>(&mut self, rt: &R) -> io::Result<(TcpSource, TcpSink)> {
+    /// The next connection whose request is whole, and has the key where one is asked for. It waits for one.
+    pub(crate) fn next<R: Clock + Eprint>(
+        &mut self,
+        rt: &R,
+        key: Option<&[u8]>,
+    ) -> io::Result<(TcpSource, TcpSink)> {
         for _ in 0..u64::MAX {
             if let Some(
                 Held {
@@ -199,12 +206,12 @@ impl Hall {
                 },
             ) = self.take_ready()
             {
-                source.set_out();
+                source.set_out(key.is_some());
                 return Ok((source, sink));
             }
             let now = Instant::now(rt)?;
             self.admit(now)?;
-            self.go_on(now);
+            self.go_on(now, key);
             self.tell(rt, now);
             if !self.held.iter().any(|one| one.is_ready()) {
                 self.wait()?;

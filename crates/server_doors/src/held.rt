@@ -1,4 +1,5 @@
 //! A connection that a door holds.
+use crate::key::REFUSAL;
 use crate::outlet::Outlet;
 use crate::tcp_sink::TcpSink;
 use crate::tcp_source::{Came, TcpSource};
@@ -19,6 +20,15 @@ pub(crate) enum Fate {
     Ends,
     /// It failed, or has run out of its time.
     Fails,
+}
+
+/// What is asked of each request and response.
+#[derive(Clone, Copy)]
+pub(crate) struct Terms<'a> {
+    /// How long one may take.
+    pub(crate) patience: Duration,
+    /// The key that a request has to have, where one is asked for.
+    pub(crate) key: Option<&'a [u8]>,
 }
 
 /// A connection that a door holds: its request is read, or its response is written.
@@ -88,27 +98,47 @@ impl Held {
         }
     }
 
-    /// Reads what has come of its request.
-    fn gather(&mut self, now: Instant, patience: Duration) -> io::Result<Fate> {
-        let begins = self.source.is_empty();
-        match self.source.gather()? {
-            Came::Request => {
+    /// A request is there. It can be given, if it has the key that is asked for.
+    fn arrive(&mut self, now: Instant, terms: Terms<'_>) -> io::Result<Fate> {
+        match terms.key {
+            Some(key) if !self.source.has_key(key) => self.refuse(now, terms.patience),
+            _ => {
                 self.ready = true;
-                return Ok(Fate::Stays);
+                Ok(Fate::Stays)
             }
-            Came::End => return Ok(Fate::Ends),
-            Came::Part if begins => self.since = None,
-            Came::Part | Came::Nothing => {}
+        }
+    }
+
+    /// Refuses the request that is there, and ends behind that.
+    fn refuse(&mut self, now: Instant, patience: Duration) -> io::Result<Fate> {
+        self.is_last = true;
+        self.since = None;
+        self.sink.outlet.put(REFUSAL)?;
+        self.sink.outlet.pass_on()?;
+        if self.sink.outlet.is_empty() {
+            return Ok(Fate::Ends);
         }
         Ok(self.wait(now, patience))
     }
 
+    /// Reads what has come of its request.
+    fn gather(&mut self, now: Instant, terms: Terms<'_>) -> io::Result<Fate> {
+        let begins = self.source.is_empty();
+        match self.source.gather()? {
+            Came::Request => return self.arrive(now, terms),
+            Came::End => return Ok(Fate::Ends),
+            Came::Part if begins => self.since = None,
+            Came::Part | Came::Nothing => {}
+        }
+        Ok(self.wait(now, terms.patience))
+    }
+
     /// Writes what is to be taken, and reads what has come behind that.
-    fn work(&mut self, now: Instant, patience: Duration) -> io::Result<Fate> {
+    fn work(&mut self, now: Instant, terms: Terms<'_>) -> io::Result<Fate> {
         if !self.sink.outlet.is_empty() {
             self.sink.outlet.pass_on()?;
             if !self.sink.outlet.is_empty() {
-                return Ok(self.wait(now, patience));
+                return Ok(self.wait(now, terms.patience));
             }
             self.since = None;
         }
@@ -116,17 +146,16 @@ impl Held {
             return Ok(Fate::Ends);
         }
         if self.since.is_none() && self.source.is_ready() {
-            self.ready = true;
-            return Ok(Fate::Stays);
+            return self.arrive(now, terms);
         }
-        self.gather(now, patience)
+        self.gather(now, terms)
     }
 
     /// Takes it on, as far as it goes without waiting.
-    pub(crate) fn go_on(&mut self, now: Instant, patience: Duration) -> Fate {
+    pub(crate) fn go_on(&mut self, now: Instant, terms: Terms<'_>) -> Fate {
         if self.ready {
             return Fate::Stays;
         }
-        self.work(now, patience).unwrap_or(Fate::Fails)
+        self.work(now, terms).unwrap_or(Fate::Fails)
     }
 }

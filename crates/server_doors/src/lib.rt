@@ -5,6 +5,7 @@ mod connection;
 mod door;
 mod hall;
 mod held;
+mod key;
 mod memory_door;
 mod outlet;
 mod reach;

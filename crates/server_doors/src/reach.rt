@@ -49,14 +49,25 @@ fn head_length(bytes: &[u8]) -> Option<usize>
     None
 }
 
-/// The value of a `Content-Length` line.
-fn length_value(line: &[u8]) -> Option<&str> {
+/// The head at the front, if it is there whole.
+pub(crate) fn head_of(bytes: &[u8]) -> Option<&[u8]>
+    ensures { IfSome result (λ head. length head.now ≤ length bytes.now) }
+{
+    let looked = &bytes[..bytes.len().min(MOST_HEAD)];
+    let length = head_length(looked)?;
+    Some(&looked[..length])
+}
+
+/// The value of a line of this name, without its end and the spaces and tabs around it; an empty one where it is no text.
+pub(crate) fn value_of<'a>(line: &'a [u8], name: &[u8]) -> Option<&'a str> {
     let mut parts = line.splitn(2, |byte| *byte == b':');
-    let (name, value) = (parts.next()?, parts.next()?);
-    if !name.eq_ignore_ascii_case(b"content-length") {
+    let (found, value) = (parts.next()?, parts.next()?);
+    if !found.eq_ignore_ascii_case(name) {
         return None;
     }
-    Some(std::str::from_utf8(value).unwrap_or("").trim())
+    let value = std::str::from_utf8(value).unwrap_or("");
+    let value = value.strip_suffix('\r').unwrap_or(value);
+    Some(value.trim_matches([' ', '\t']))
 }
 
 /// The number that a length is, where a body may be that long.
@@ -73,7 +84,7 @@ fn read_length(value: &str) -> Option<usize> {
 /// How long the body is that the first such line of a head asks for. Where a later one says otherwise, the reader refuses the head.
 fn body_length(head: &[u8]) -> Option<usize> {
     for line in head.split(|byte| *byte == b'\n') {
-        if let Some(value) = length_value(line) {
+        if let Some(value) = value_of(line, b"content-length") {
             return read_length(value);
         }
     }
@@ -82,15 +93,14 @@ fn body_length(head: &[u8]) -> Option<usize> {
 
 /// How far the first request of these bytes reaches.
 pub(crate) fn reach_of(bytes: &[u8]) -> Reach {
-    let looked = &bytes[..bytes.len().min(MOST_HEAD)];
-    let Some(head) = head_length(looked) else {
+    let Some(head) = head_of(bytes) else {
         if bytes.len() < MOST_HEAD {
             return Reach::Unfinished;
         }
         return Reach::Refused;
     };
-    match body_length(&looked[..head]) {
-        Some(body) if bytes.len() - head >= body => Reach::Whole(head + body),
+    match body_length(head) {
+        Some(body) if bytes.len() - head.len() >= body => Reach::Whole(head.len() + body),
         Some(_) => Reach::Unfinished,
         None => Reach::Refused,
     }

@@ -17,8 +17,8 @@ const PATIENCE: u64 = 60;
 
 /// A door that listens at an address, from its first call on. It tells nothing of its connections.
 ///
-/// It holds at most 64 of them, and reads them beside each other: one is given when a request of it is whole. It is taken back
-/// behind the answer, and held on until the next request is whole, unless it has ended. One that fails or runs out of its time
+/// It holds at most 64 of them, and reads them beside each other: one is given when a request of it is whole, and has the key
+/// where one is asked for. It is taken back behind the answer, and held on until the next request is whole, unless it has ended. One that fails or runs out of its time
 /// the door closes by itself, and tells how many these were, once a minute.
 #[derive(Drop)]
 pub struct TcpDoor<R> {
@@ -27,6 +27,8 @@ pub struct TcpDoor<R> {
     address: Text,
     /// How long a request or a response may take, from the first call on.
     pub(crate) patience: Duration,
+    /// What each request has to have as its key, where one is asked for.
+    key: Option<Text>,
     hall: Option<Hall>,
     faults: Faults,
 }
@@ -43,9 +45,19 @@ impl<R: Drop> TcpDoor<R> {
             rt,
             address,
             patience: Duration::from_secs(PATIENCE),
+            key: None,
             hall: None,
             faults: Faults::none(),
         }
+    }
+
+    /// This door, which asks each request for this key, if there is one: the value of the one `X-Key` of its head. A request
+    /// without it is answered 403, and ends its connection.
+    pub fn with_key(mut self, key: Option<Text>) -> TcpDoor<R>
+        ensures { tcp_door.faults result ≡ tcp_door.faults self }
+    {
+        self.key = key;
+        self
     }
 
     /// How many of its calls failed.
@@ -65,7 +77,11 @@ impl<R: Net<Listener = TcpListener, Stream = TcpStream> + Clock + Eprint> TcpDoo
             Some(hall) => hall,
             None => Hall::open(&self.rt, self.alloc, self.address.as_str(), self.patience)?,
         };
-        let given = hall.next(&self.rt);
+        let key = match &self.key {
+            Some(key) => Some(key.as_str().as_bytes()),
+            None => None,
+        };
+        let given = hall.next(&self.rt, key);
         self.hall = Some(hall);
         given
     }

@@ -1,6 +1,7 @@
 //! The requests of a connection over TCP.
 ghost use Rattle.std.specs.Prelude.{◌≤◌, length, vec_len};
 
+use crate::key::has_key;
 use crate::reach::{Reach, reach_of};
 use crate::wire::Hold;
 use news_io::{Failed, Source};
@@ -40,6 +41,8 @@ pub struct TcpSource {
     until: usize,
     /// As many requests may still be given.
     left: u32,
+    /// As many are given before the door looks at the next one.
+    at_once: u32,
     /// The client has ended its input.
     ended: bool,
     /// The end that was told last is none of the client's: another request may come.
@@ -57,6 +60,7 @@ impl TcpSource {
             at: 0,
             until: 0,
             left: MOST_REQUESTS,
+            at_once: 0,
             ended: false,
             rests: true,
         }
@@ -67,9 +71,16 @@ impl TcpSource {
         self.bytes.is_empty()
     }
 
-    /// The connection is given: it goes on only if what was read of it is told to end before its input does.
-    pub(crate) fn set_out(&mut self) {
+    /// The connection is given, and of it one request alone, where each is asked for its key: it goes on only if what was read
+    /// of it is told to end before its input does.
+    pub(crate) fn set_out(&mut self, is_asked: bool) {
         self.rests = false;
+        self.at_once = if is_asked { 1 } else { MOST_REQUESTS };
+    }
+
+    /// Whether the request that is given next has this key.
+    pub(crate) fn has_key(&self, key: &[u8]) -> bool {
+        has_key(self.bytes.as_slice(), key)
     }
 
     /// Whether the connection may go on behind what was answered.
@@ -152,6 +163,7 @@ impl TcpSource {
     fn begin(&mut self, length: usize, is_last: bool) {
         self.at = 0;
         self.until = length.min(self.bytes.len());
+        self.at_once = self.at_once.saturating_sub(1);
         self.left = if is_last {
             0
         } else {
@@ -159,14 +171,14 @@ impl TcpSource {
         };
     }
 
-    /// Turns to the next request, if it is there. Behind a response that the client has not taken none is.
+    /// Turns to the next request, if it is there and may be given. Behind a response that the client has not taken none is.
     fn turn(&mut self) {
         self.forget();
         self.rests = false;
         if self.left == 0 {
             return;
         }
-        if self.hold.is_full() {
+        if self.at_once == 0 || self.hold.is_full() {
             self.rests = true;
             return;
         }

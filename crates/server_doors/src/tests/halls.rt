@@ -1,5 +1,6 @@
 //! Clients of a door over TCP, over the loopback and in one thread: what a client sends waits in the system.
 use crate::hall::Hall;
+use crate::key::has_key;
 use crate::reach::{Reach, reach_of};
 use news_io::{Sink, Source};
 use std::alloc::Global;
@@ -36,7 +37,7 @@ fn client<R: Net<Listener = TcpListener, Stream = TcpStream>>(
 
 /// The next connection gives this request. It is answered with a byte, and given back.
 fn answers<R: Clock + Eprint>(rt: &R, hall: &mut Hall, request: &[u8]) -> Result<bool, Fail> {
-    let (mut source, mut sink) = hall.next(rt)?;
+    let (mut source, mut sink) = hall.next(rt, None)?;
     let mut into = [0; 100];
     let (Ok(count), Ok(_)) = (source.read(&mut into), sink.write(b"!")) else {
         return Ok(false);
@@ -85,7 +86,7 @@ fn a_connection_goes_on(rt: HostRuntime) -> Result<(), Fail> {
     let mut one = client(&rt, &hall, REQUEST)?;
     one.write_all(QUESTION)?;
     one.write_all(HALVES.0)?;
-    let (mut source, sink) = hall.next(&rt)?;
+    let (mut source, sink) = hall.next(&rt, None)?;
     let mut into = [0; 100];
     assert_eq!(rt; source.read(&mut into), Ok(REQUEST.len()));
     assert_eq!(rt; source.read(&mut into), Ok(QUESTION.len()));
@@ -128,5 +129,24 @@ fn requests_reach_so_far(rt: HostRuntime) -> Result<(), Fail> {
     }
     assert_eq!(rt; reach_of(&[b'a'; 16383]), Reach::Unfinished);
     assert_eq!(rt; reach_of(&[b'a'; 16384]), Reach::Refused);
+    Ok(())
+}
+
+#[test]
+fn keys_are_compared(rt: HostRuntime) -> Result<(), Fail> {
+    for (head, has) in [
+        (b"GET / HTTP/1.1\r\nX-Key: sesame\r\n\r\n".as_slice(), true),
+        (b"GET / HTTP/1.1\nA: b\nx-KEY:\tsesame \n\nabc", true),
+        (b"GET / HTTP/1.1\r\nX-Key: sesame\r\n", false),
+        (b"GET / HTTP/1.1\r\nX-User: sesame\r\n\r\n", false),
+        (b"GET / HTTP/1.1\r\nX-Key: Sesame\r\n\r\n", false),
+        (b"GET / HTTP/1.1\r\nX-Key: sesam\r\n\r\n", false),
+        (b"GET / HTTP/1.1\r\nX-Key : sesame\r\n\r\n", false),
+        (b"GET / HTTP/1.1\r\nX-Key:\r\n sesame\r\n\r\n", false),
+        (b"GET / HTTP/1.1\nX-Key: sesame\nX-Key: sesame\n\n", false),
+        (b"GET / HTTP/1.1\n\nX-Key: sesame\n\n", false),
+    ] {
+        assert_eq!(rt; has_key(head, b"sesame"), has, "{}", head.len());
+    }
     Ok(())
 }
