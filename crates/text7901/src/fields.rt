@@ -1,6 +1,6 @@
 //! The fields of a message.
 
-ghost use Rattle.std.specs.Prelude.{◌≡◌, ◌++◌, ◌≤◌, ◌*◌, IfOk, codes, length, take};
+ghost use Rattle.std.specs.Prelude.{◌≡◌, ◌++◌, ◌≤◌, ◌*◌, IfOk, [], codes, length, take};
 ghost use Rattle.text7901.specs.Fields.{ends_field, fitting, incoming, story_of, named, urgency, behind_urgency, category_in, slugline, headline, body, trim, lines_of, source, number, info, head, text};
 
 use crate::bytes::{
@@ -51,20 +51,38 @@ fn story(alloc: Global, line: &[u8], slug: &[u8], text: &[u8]) -> Result<Story, 
     ensures size { IfOk result (λ told. length told.body ≤ 2 * length text.now) }
 {
     let lines = with_lf(alloc, text)?;
-    let lines = without_last_lf(lines.as_slice());
+    story_of(alloc, line, slug, without_last_lf(lines.as_slice()))
+}
+
+/// The story with this header line, slug part and lines.
+fn story_of(alloc: Global, line: &[u8], slug: &[u8], lines: &[u8]) -> Result<Story, Memory>
+    ensures value { IfOk result (λ told. told ≡ story_of line.now slug.now lines.now) }
+    ensures size { IfOk result (λ told. length told.body ≤ 2 * length lines.now) }
+{
     let (urgency, rest) = urgency_of(line);
+    let slugline = slugline_text(alloc, slug)?;
+    let headline = headline_text(alloc, lines)?;
+    let category = utf8_text(alloc, category_of(rest))?;
+    let body = body_text(alloc, lines)?;
     Ok(Story {
         kind: Media::Text,
         urgency,
-        slugline: slugline_text(alloc, slug)?,
-        headline: headline_text(alloc, lines)?,
-        byline: Text::copy_of(alloc, "")?,
-        language: Text::copy_of(alloc, "")?,
-        category: utf8_text(alloc, category_of(rest))?,
-        body: body_text(alloc, lines)?,
+        slugline,
+        headline,
+        byline: empty(alloc),
+        language: empty(alloc),
+        category,
+        body,
         html: false,
-        copyright: Text::copy_of(alloc, "")?,
+        copyright: empty(alloc),
     })
+}
+
+/// A text of no characters.
+fn empty(alloc: Global) -> Text
+    ensures { result ≡ [] }
+{
+    Text::of(String::new(alloc))
 }
 
 /// The urgency, 0 where there is none, and what follows it: nothing that counts where there is none.
@@ -106,7 +124,7 @@ fn slugline_text(alloc: Global, slug: &[u8]) -> Result<Text, Memory>
     if is_short(slug) {
         utf8_text(alloc, slug)
     } else {
-        Text::copy_of(alloc, "")
+        Ok(empty(alloc))
     }
 }
 
@@ -118,7 +136,7 @@ fn headline_text(alloc: Global, lines: &[u8]) -> Result<Text, Memory>
     if is_short(first) {
         utf8_text(alloc, first)
     } else {
-        Text::copy_of(alloc, "")
+        Ok(empty(alloc))
     }
 }
 

@@ -7,7 +7,7 @@ use crate::bytes::{EOT, ETX, STX, is_digit, is_letter};
 use crate::found::What;
 
 /// How far a message has come.
-#[derive(Clone, Copy, Debug, PartialEq, Eq)]
+#[derive(Clone, Copy)]
 pub enum Phase {
     /// So many letters of the source.
     Source(u8),
@@ -21,7 +21,7 @@ pub enum Phase {
 }
 
 /// What a byte does to a message.
-#[derive(Clone, Copy, Debug, PartialEq, Eq)]
+#[derive(Clone, Copy)]
 pub enum Step {
     Go(Phase),
     Bad(What),

@@ -11,14 +11,14 @@ use crate::phase::{Phase, Step};
 pub const MOST: usize = 131071;
 
 /// What a byte does to a message: it goes on in a phase, or is over before the byte.
-#[derive(Clone, Copy, Debug, PartialEq, Eq)]
+#[derive(Clone, Copy)]
 pub enum Turn {
     On(Phase),
     Over(Option<What>),
 }
 
 /// How far a message goes in a piece: it is still open behind it, or ends behind so many bytes.
-#[derive(Clone, Copy, Debug, PartialEq, Eq)]
+#[derive(Clone, Copy)]
 pub enum Reach {
     Open(Phase),
     Ended { len: usize, what: Option<What> },

@@ -45,6 +45,24 @@ fn found_at(alloc: Global, at: u64, message: &[u8], what: Option<What>) -> Resul
     }
 }
 
+/// Puts what the bytes of a message are that ends at this place behind the members that were made.
+fn put_member(
+    alloc: Global,
+    made: &mut VecDeque<Found>,
+    at: u64,
+    message: &[u8],
+    what: Option<What>,
+) -> Result<(), Memory>
+    requires short { length message.now ≤ 131071 }
+    requires fits { All FitsFound made.old.items }
+    ensures members { OnOk result (made.new.items ≡ made.old.items ++ closing at message.now what ∷ []) }
+    ensures fits { OnOk result (All FitsFound made.new.items) }
+    ensures err { OnErr result (made.new.items ≡ made.old.items) }
+{
+    made.push_back(found_at(alloc, at, message, what)?)?;
+    Ok(())
+}
+
 /// Reads bytes that stand outside a message, up to the message that they do not end.
 fn read_on<'a>(
     alloc: Global,
@@ -75,7 +93,7 @@ fn read_on<'a>(
             Reach::Ended { len, what } => {
                 let (front, behind) = message.split_at(len);
                 at = begin + len as u64;
-                made.push_back(found_at(alloc, at, front, what)?)?;
+                put_member(alloc, made, at, front, what)?;
                 rest = behind;
             }
         }
@@ -92,30 +110,50 @@ impl State {
     fn go_on(
         &mut self,
         alloc: Global,
-        mut made: VecDeque<Found>,
+        made: &mut VecDeque<Found>,
         at: u64,
         piece: &[u8],
     ) -> Result<(), Memory>
         requires fits { at + length piece.now < 2 ^ 64 }
-        requires made { All FitsFound made.items }
+        requires made { All FitsFound made.old.items }
         requires ready { All FitsFound self.old.ready.items }
         ensures ready { OnOk result (All FitsFound self.new.ready.items) }
         ensures at { OnOk result (self.new.at ≡ at + length piece.now) }
         ensures state { OnOk result (IsOpen self.new.at self.new.phase self.new.held.items) }
         ensures members { OnOk result ((more : List ℕ) →
             self.new.ready.items ++ ahead_of self.new.at self.new.phase self.new.held.items more
-            ≡ self.old.ready.items ++ made.items ++ wire_from at (piece.now ++ more)) }
+            ≡ self.old.ready.items ++ made.old.items ++ wire_from at (piece.now ++ more)) }
         ensures err_ready { OnErr result (self.new.ready.items ≡ self.old.ready.items) }
         ensures err_at { OnErr result (self.new.at ≡ self.old.at) }
         ensures err_phase { OnErr result (self.new.phase ≡ self.old.phase) }
         ensures err_held { OnErr result (self.new.held.items ≡ self.old.held.items) }
     {
-        let rest = read_on(alloc, at, piece, &mut made)?;
+        let rest = read_on(alloc, at, piece, made)?;
         let held = Vec::from_slice(alloc, rest.bytes)?;
-        self.ready.append(&mut made)?;
+        self.ready.append(made)?;
         self.at = at + piece.len() as u64;
         self.phase = rest.phase;
         self.held = held;
+        Ok(())
+    }
+
+    /// Takes a piece where nothing is held of a message.
+    fn go_outside(&mut self, alloc: Global, piece: &[u8]) -> Result<(), Memory>
+        requires fits { self.old.at + length piece.now < 2 ^ 64 }
+        requires ready { All FitsFound self.old.ready.items }
+        ensures ready { OnOk result (All FitsFound self.new.ready.items) }
+        ensures at { OnOk result (self.new.at ≡ self.old.at + length piece.now) }
+        ensures state { OnOk result (IsOpen self.new.at self.new.phase self.new.held.items) }
+        ensures members { OnOk result ((more : List ℕ) →
+            self.new.ready.items ++ ahead_of self.new.at self.new.phase self.new.held.items more
+            ≡ self.old.ready.items ++ wire_from self.old.at (piece.now ++ more)) }
+        ensures err_ready { OnErr result (self.new.ready.items ≡ self.old.ready.items) }
+        ensures err_at { OnErr result (self.new.at ≡ self.old.at) }
+        ensures err_phase { OnErr result (self.new.phase ≡ self.old.phase) }
+        ensures err_held { OnErr result (self.new.held.items ≡ self.old.held.items) }
+    {
+        let mut made = VecDeque::new(alloc);
+        self.go_on(alloc, &mut made, self.at, piece)?;
         Ok(())
     }
 
@@ -145,10 +183,9 @@ impl State {
         let (front, rest) = piece.split_at(len);
         let at = self.at + len as u64;
         self.held.extend_from_slice(front)?;
-        let found = found_at(alloc, at, self.held.as_slice(), what)?;
         let mut made = VecDeque::new(alloc);
-        made.push_back(found)?;
-        self.go_on(alloc, made, at, rest)?;
+        put_member(alloc, &mut made, at, self.held.as_slice(), what)?;
+        self.go_on(alloc, &mut made, at, rest)?;
         Ok(())
     }
 
@@ -169,8 +206,7 @@ impl State {
         ensures err_held { OnErr result (self.new.held.items ≡ self.old.held.items) }
     {
         let Some(phase) = self.phase else {
-            let made = VecDeque::new(alloc);
-            return self.go_on(alloc, made, self.at, piece);
+            return self.go_outside(alloc, piece);
         };
         match reach_in(phase, self.held.len(), piece) {
             Reach::Open(phase) => {
@@ -207,8 +243,8 @@ impl State {
         let Some(phase) = self.phase else {
             return Ok(());
         };
-        let found = found_at(alloc, self.at, self.held.as_slice(), phase.at_end())?;
-        self.ready.push_back(found)?;
+        let message = self.held.as_slice();
+        put_member(alloc, &mut self.ready, self.at, message, phase.at_end())?;
         self.phase = None;
         self.held.clear();
         Ok(())

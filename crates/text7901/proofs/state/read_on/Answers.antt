@@ -1,6 +1,5 @@
-use Rattle.std.proofs.Common.{◌++◌, ◌+◌, ap, ◌∙◌, arith, length}
-use Rattle.text7901.specs.Limits.{FitsFound}
-use Rattle.text7901.proofs.Sizes.{all_more}
+use Rattle.std.proofs.Common.{◌++◌, ◌+◌, ap, ◌∙◌, arith, length, refl}
+use Rattle.text7901.specs.State.{closing}
 use Rattle.text7901.proofs.Parts.{place_found, place_none}
 use Rattle.text7901.proofs.Ahead.{opened_in, ended_in, outside_quiet}
 use Rattle.text7901.proofs.state.read_on.Goals as goal
@@ -17,11 +16,11 @@ loop-gap-preserved c =
     let h = place_found 1 l.rest.now c.in-Some.gap c.in-Some.ensures.place in
     record {
       place = omega (arith, l.invariant.place, c.split_at.ensures.back_len, c.split_at-in-Ended.ensures.back_len);
-      made = all_more FitsFound l.made.items c.push_back.new.self.items c.in_ok-found_at-in-Ended.field-0 l.invariant.made c.in_ok-found_at-in-Ended.ensures.fits c.in_ok-push_back-in-Ended.ensures.items;
+      made = c.in_ok-put_member-in-Ended.ensures.fits;
       members = λ more.
-          ended_in l.at c.in-Some.gap c.in-Ended.len l.rest.now c.split_at.result.1.now c.split_at-in-Ended.result.0.now c.split_at-in-Ended.result.1.now more l.made.items c.push_back.new.self.items
-          c.in_ok-found_at-in-Ended.field-0 c.in-Ended.what h c.split_at.ensures.back c.in-Ended.ensures c.split_at-in-Ended.ensures.front c.split_at-in-Ended.ensures.back
-          c.in_ok-found_at-in-Ended.ensures.value c.in_ok-push_back-in-Ended.ensures.items
+          ended_in l.at c.in-Some.gap c.in-Ended.len l.rest.now c.split_at.result.1.now c.split_at-in-Ended.result.0.now c.split_at-in-Ended.result.1.now more l.made.items c.put_member.new.made.items
+          (closing (l.at + c.in-Some.gap + 1 + c.in-Ended.len) c.split_at-in-Ended.result.0.now c.in-Ended.what) c.in-Ended.what h c.split_at.ensures.back c.in-Ended.ensures c.split_at-in-Ended.ensures.front c.split_at-in-Ended.ensures.back
+          refl c.in_ok-put_member-in-Ended.ensures.members
           ∙ l.invariant.members more;
     }
 
