@@ -30,7 +30,7 @@ use Rattle.ninjs_text.specs.declared.reading.Body.{Body}
 use Rattle.ninjs_text.specs.Reading.{then_read, json_of}
 use Rattle.ninjs_text.specs.Words.{media_of, status_of, status_word}
 use Rattle.ninjs_text.specs.Properties.{property, property_name, unless_null, word_of, short_text_of, moment_of_data, urgency_of}
-use Rattle.ninjs_text.specs.Item.{uri_in, or_empty, item, ninjs}
+use Rattle.ninjs_text.specs.Item.{uri_in, or_empty, lines, story, item, ninjs}
 use Rattle.ninjs_text.specs.Writing.{put_text, put_filled, put_urgency, put_version, body_key, members}
 use Rattle.ninjs_text.specs.Told.{told, told_status}
 
@@ -179,25 +179,38 @@ read_body : (html : Bool) (b : List ℕ) → length b ≤ 524288
 read_body true b short = rw (is_short (length b) 524288 short) refl
 read_body false b short = rw (is_short (length b) 524288 short) refl
 
+-- the value of a property of the item that is written
+at : (p : Publication) (named : Bytes) (key : Property) → property key (object (members p named)) ≡ option_and_then unless_null (found (property_name key) (pairs p named))
+at p named key = ap (option_and_then unless_null) (get_item (property_name key) p named)
+
+lines_told : (p : Publication) (named : Bytes) → FitsStory p.story
+    → lines (object (members p named)) ≡ Ok (record { headline = p.story.headline; byline = p.story.byline; slugline = p.story.slugline; language = p.story.language; copyright = p.story.copyright })
+lines_told p named fits =
+    then_ok _ p.story.headline _ _ (ap (text_by 500 property_is.Headline) (at p named property_is.Headline) ∙ read_filled 500 property_is.Headline p.story.headline fits.headline) (
+    then_ok _ p.story.byline _ _ (ap (text_by 500 property_is.Byline) (at p named property_is.Byline) ∙ read_filled 500 property_is.Byline p.story.byline fits.byline) (
+    then_ok _ p.story.slugline _ _ (ap (text_by 500 property_is.Slugline) (at p named property_is.Slugline) ∙ read_filled 500 property_is.Slugline p.story.slugline fits.slugline) (
+    then_ok _ p.story.language _ _ (ap (text_by 35 property_is.Language) (at p named property_is.Language) ∙ read_filled 35 property_is.Language p.story.language fits.language) (
+    then_ok _ p.story.copyright _ _ (ap (text_by 500 property_is.CopyrightHolder) (at p named property_is.CopyrightHolder) ∙ read_filled 500 property_is.CopyrightHolder p.story.copyright fits.copyright) refl))))
+
+story_told : (p : Publication) (named : Bytes) → FitsStory p.story
+    → story (media_of (media_word p.story.kind)) (object (members p named)) ≡ Ok (told p named).story
+story_told p named fits =
+    then_ok _ p.story.urgency _ _ (ap urgency_of (at p named property_is.Urgency) ∙ read_level p.story.urgency fits.urgency) (
+    then_ok _ _ _ _ (lines_told p named fits) (
+    then_ok _ (record { text = p.story.body; html = p.story.html }) _ _ ((λ i. body_by (at p named property_is.BodyText i) (at p named property_is.BodyHtml i)) ∙ read_body p.story.html p.story.body fits.body) (
+    λ i. Ok (record (told p named).story { kind = read_media p.story.kind i }))))
+
 -- the item that is written is the publication that is told
 pub item_told : (p : Publication) (named : Bytes) → FitsStory p.story → 0 < length named → length named ≤ 256
     → moment_of (moment_text p.release) ≡ Some (min p.release last_moment) → item (object (members p named)) ≡ Ok (told p named)
 item_told p named fits some short moment =
-    let at : (key : Property) → property key (object (members p named)) ≡ option_and_then unless_null (found (property_name key) (pairs p named)) =
-    λ key. ap (option_and_then unless_null) (get_item (property_name key) p named) in
-    then_ok _ named _ _ (ap uri_by (at property_is.Uri) ∙ read_uri named some short) (
-    then_ok _ (media_word p.story.kind) _ _ (ap (word_of property_is.MediaType) (at property_is.MediaType)) (
-    then_ok _ (status_word p.kind) _ _ (ap (word_of property_is.PubStatus) (at property_is.PubStatus)) (
-    then_ok _ (min p.release last_moment) _ _ (ap (moment_of_data property_is.VersionCreated) (at property_is.VersionCreated) ∙ read_moment property_is.VersionCreated p.release moment) (
-    then_ok {A = ℕ} _ 0 _ _ (ap (moment_of_data property_is.Embargoed) (at property_is.Embargoed)) (
-    then_ok _ p.story.urgency _ _ (ap urgency_of (at property_is.Urgency) ∙ read_level p.story.urgency fits.urgency) (
-    then_ok _ p.story.headline _ _ (ap (text_by 500 property_is.Headline) (at property_is.Headline) ∙ read_filled 500 property_is.Headline p.story.headline fits.headline) (
-    then_ok _ p.story.byline _ _ (ap (text_by 500 property_is.Byline) (at property_is.Byline) ∙ read_filled 500 property_is.Byline p.story.byline fits.byline) (
-    then_ok _ p.story.slugline _ _ (ap (text_by 500 property_is.Slugline) (at property_is.Slugline) ∙ read_filled 500 property_is.Slugline p.story.slugline fits.slugline) (
-    then_ok _ p.story.language _ _ (ap (text_by 35 property_is.Language) (at property_is.Language) ∙ read_filled 35 property_is.Language p.story.language fits.language) (
-    then_ok _ p.story.copyright _ _ (ap (text_by 500 property_is.CopyrightHolder) (at property_is.CopyrightHolder) ∙ read_filled 500 property_is.CopyrightHolder p.story.copyright fits.copyright) (
-    then_ok _ (record { text = p.story.body; html = p.story.html }) _ _ ((λ i. body_by (at property_is.BodyText i) (at property_is.BodyHtml i)) ∙ read_body p.story.html p.story.body fits.body) (
-    λ i. Ok (record (told p named) { status = read_status p.kind i; story = record (told p named).story { kind = read_media p.story.kind i } })))))))))))))
+    then_ok _ named _ _ (ap uri_by (at p named property_is.Uri) ∙ read_uri named some short) (
+    then_ok _ (media_word p.story.kind) _ _ (ap (word_of property_is.MediaType) (at p named property_is.MediaType)) (
+    then_ok _ (status_word p.kind) _ _ (ap (word_of property_is.PubStatus) (at p named property_is.PubStatus)) (
+    then_ok _ (min p.release last_moment) _ _ (ap (moment_of_data property_is.VersionCreated) (at p named property_is.VersionCreated) ∙ read_moment property_is.VersionCreated p.release moment) (
+    then_ok {A = ℕ} _ 0 _ _ (ap (moment_of_data property_is.Embargoed) (at p named property_is.Embargoed)) (
+    then_ok _ (told p named).story _ _ (story_told p named fits) (
+    λ i. Ok (record (told p named) { status = read_status p.kind i })))))))
 
 -- ---- how deep it nests
 

@@ -1,13 +1,16 @@
 -- What a ninjs item says: what came in, or the first fault.
-use Rattle.std.specs.Prelude.{ℕ, Bool, false, List, [], length, nat_lt, ◌==◌, if◌then◌else◌, Option, Some, None, is_some, Result, Ok, Err}
+use Rattle.std.specs.Prelude.{ℕ, ◌≤◌, Bool, false, List, [], length, nat_lt, ◌==◌, if◌then◌else◌, Option, Some, None, is_some, Result, Ok, Err}
 use Rattle.serde_json.specs.Data.{Data, Members}
 use Rattle.serde_json.specs.Find.{as_object}
+use Rattle.news_types.specs.declared.words.Media.{Media}
+use Rattle.news_types.specs.declared.story.Story.{Story}
 use Rattle.news_types.specs.declared.story.Incoming.{Incoming}
 use Rattle.news_types.specs.Names.{Bytes}
 use Rattle.ninjs_text.specs.declared.fault.Property.{Property}
 use Rattle.ninjs_text.specs.declared.fault.Property.TheVariants as property_is
 use Rattle.ninjs_text.specs.declared.fault.NinjsFault.{NinjsFault}
 use Rattle.ninjs_text.specs.declared.fault.NinjsFault.TheVariants.{NotJson, NotObject, NoUri}
+use Rattle.ninjs_text.specs.declared.reading.Lines.{Lines}
 use Rattle.ninjs_text.specs.declared.reading.Body.{Body}
 use Rattle.ninjs_text.specs.Reading.{then_read, json_of}
 use Rattle.ninjs_text.specs.Words.{media_of, status_of}
@@ -42,6 +45,49 @@ body d =
     then body_in property_is.BodyText false d
     else body_in property_is.BodyHtml (is_some (property property_is.BodyHtml d)) d
 
+-- ---- the story
+
+-- the short texts
+abbrev pub lines : Data → Result Lines NinjsFault
+lines d =
+    then_read (text_or_empty 500 property_is.Headline d) (λ headline.
+    then_read (text_or_empty 500 property_is.Byline d) (λ byline.
+    then_read (text_or_empty 500 property_is.Slugline d) (λ slugline.
+    then_read (text_or_empty 35 property_is.Language d) (λ language.
+    then_read (text_or_empty 500 property_is.CopyrightHolder d) (λ copyright.
+    Ok (record {
+      headline = headline;
+      byline = byline;
+      slugline = slugline;
+      language = language;
+      copyright = copyright;
+    }))))))
+
+pub record FitsLines (short : Lines) : Type 0 where
+  pub headline : length short.headline ≤ 500
+  pub byline : length short.byline ≤ 500
+  pub slugline : length short.slugline ≤ 500
+  pub language : length short.language ≤ 35
+  pub copyright : length short.copyright ≤ 500
+
+abbrev pub story : Media → Data → Result Story NinjsFault
+story kind d =
+    then_read (urgency d) (λ level.
+    then_read (lines d) (λ (short : Lines).
+    then_read (body d) (λ (told : Body).
+    Ok (record {
+      kind = kind;
+      urgency = level;
+      slugline = short.slugline;
+      headline = short.headline;
+      byline = short.byline;
+      language = short.language;
+      category = [];
+      body = told.text;
+      html = told.html;
+      copyright = short.copyright;
+    }))))
+
 -- ---- the item
 
 abbrev pub item : Data → Result Incoming NinjsFault
@@ -51,31 +97,14 @@ item d =
     then_read (word property_is.PubStatus d) (λ status.
     then_read (moment_or_zero property_is.VersionCreated d) (λ created.
     then_read (moment_or_zero property_is.Embargoed d) (λ embargo.
-    then_read (urgency d) (λ level.
-    then_read (text_or_empty 500 property_is.Headline d) (λ headline.
-    then_read (text_or_empty 500 property_is.Byline d) (λ byline.
-    then_read (text_or_empty 500 property_is.Slugline d) (λ slugline.
-    then_read (text_or_empty 35 property_is.Language d) (λ language.
-    then_read (text_or_empty 500 property_is.CopyrightHolder d) (λ copyright.
-    then_read (body d) (λ (told : Body).
+    then_read (story (media_of media) d) (λ story.
     Ok (record {
       identity = identity;
       created = created;
       embargo = embargo;
       status = status_of status;
-      story = record {
-        kind = media_of media;
-        urgency = level;
-        slugline = slugline;
-        headline = headline;
-        byline = byline;
-        language = language;
-        category = [];
-        body = told.text;
-        html = told.html;
-        copyright = copyright;
-      };
-    })))))))))))))
+      story = story;
+    })))))))
 
 abbrev pub if_object : Option Members → Data → Result Incoming NinjsFault
 if_object None d = Err NotObject

@@ -27,20 +27,28 @@ put_version version ms = put_text (codes "version") (decimal version) ms
 abbrev pub body_key : Bool → List ℕ
 body_key html = if html then codes "body_html" else codes "body_text"
 
-abbrev pub members : Publication → Bytes → Members
-members publication uri =
-    put_text (codes "versioncreated") (moment_text publication.release)
-    (put_version publication.version
-    (put_text (codes "uri") uri
-    (put_urgency publication.story.urgency
-    (put_text (codes "type") (media_word publication.story.kind)
-    (put_filled (codes "slugline") publication.story.slugline
+-- the texts of a publication, and its status
+abbrev pub put_texts : Publication → Members → Members
+put_texts publication ms =
+    put_filled (codes "slugline") publication.story.slugline
     (put_text (codes "pubstatus") (status_word publication.kind)
     (put_filled (codes "language") publication.story.language
     (put_filled (codes "headline") publication.story.headline
     (put_filled (codes "copyrightholder") publication.story.copyright
     (put_filled (codes "byline") publication.story.byline
-    (put_text (body_key publication.story.html) publication.story.body no_members)))))))))))
+    (put_text (body_key publication.story.html) publication.story.body ms))))))
+
+-- what else it says
+abbrev pub put_marks : Publication → Bytes → Members → Members
+put_marks publication uri ms =
+    put_text (codes "versioncreated") (moment_text publication.release)
+    (put_version publication.version
+    (put_text (codes "uri") uri
+    (put_urgency publication.story.urgency
+    (put_text (codes "type") (media_word publication.story.kind) ms))))
+
+abbrev pub members : Publication → Bytes → Members
+members publication uri = put_marks publication uri (put_texts publication no_members)
 
 abbrev pub item_bytes : Publication → Bytes → List ℕ
 item_bytes publication uri = compact_text (object (members publication uri))

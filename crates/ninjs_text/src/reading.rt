@@ -1,14 +1,14 @@
 //! Items are read.
 ghost use Rattle.std.specs.Prelude.{◌≡◌, ◌≤◌, Some, IfOk, IfErr, length};
 ghost use Rattle.serde_json.specs.View.{view};
-ghost use Rattle.news_types.specs.Fits.{FitsIncoming};
+ghost use Rattle.news_types.specs.Fits.{FitsStory, FitsIncoming};
 ghost use Rattle.ninjs_text.specs.Reading.{IsRead, IsNoJson, json_of};
 ghost use Rattle.ninjs_text.specs.Item as said;
 
 use crate::fault::{NinjsFault, Property};
 use crate::properties::{moment_or_zero, present, short_text, urgency, word};
 use crate::words::{media_of, status_of};
-use news_types::{Incoming, Story, Text};
+use news_types::{Incoming, Media, Story, Text};
 use serde_json::Value;
 use std::alloc::Global;
 
@@ -55,31 +55,63 @@ fn item(alloc: Global, object: &Value) -> Result<Incoming, NinjsFault>
     let status = status_of(word(object, Property::PubStatus)?);
     let created = moment_or_zero(object, Property::VersionCreated)?;
     let embargo = moment_or_zero(object, Property::Embargoed)?;
-    let urgency = urgency(object)?;
-    let headline = copied_text(alloc, object, Property::Headline, 500)?;
-    let byline = copied_text(alloc, object, Property::Byline, 500)?;
-    let slugline = copied_text(alloc, object, Property::Slugline, 500)?;
-    let language = copied_text(alloc, object, Property::Language, 35)?;
-    let copyright = copied_text(alloc, object, Property::CopyrightHolder, 500)?;
-    let body = read_body(alloc, object)?;
-    let category = Text::copy_of(alloc, "")?;
+    let story = read_story(alloc, object, kind)?;
     Ok(Incoming {
         identity,
         created,
         embargo,
         status,
-        story: Story {
-            kind,
-            urgency,
-            slugline,
-            headline,
-            byline,
-            language,
-            category,
-            body: body.text,
-            html: body.html,
-            copyright,
-        },
+        story,
+    })
+}
+
+/// The story, of this kind.
+fn read_story(alloc: Global, object: &Value, kind: Media) -> Result<Story, NinjsFault>
+    ensures value { IsRead (said.story kind (view object.now)) result }
+    ensures fits { IfOk result FitsStory }
+{
+    let urgency = urgency(object)?;
+    let lines = read_lines(alloc, object)?;
+    let body = read_body(alloc, object)?;
+    Ok(Story {
+        kind,
+        urgency,
+        slugline: lines.slugline,
+        headline: lines.headline,
+        byline: lines.byline,
+        language: lines.language,
+        category: Text::of(String::new(alloc)),
+        body: body.text,
+        html: body.html,
+        copyright: lines.copyright,
+    })
+}
+
+/// The short texts of a story.
+#[derive(Drop)]
+struct Lines {
+    headline: Text,
+    byline: Text,
+    slugline: Text,
+    language: Text,
+    copyright: Text,
+}
+
+fn read_lines(alloc: Global, object: &Value) -> Result<Lines, NinjsFault>
+    ensures value { IsRead (said.lines (view object.now)) result }
+    ensures bound { IfOk result said.FitsLines }
+{
+    let headline = copied_text(alloc, object, Property::Headline, 500)?;
+    let byline = copied_text(alloc, object, Property::Byline, 500)?;
+    let slugline = copied_text(alloc, object, Property::Slugline, 500)?;
+    let language = copied_text(alloc, object, Property::Language, 35)?;
+    let copyright = copied_text(alloc, object, Property::CopyrightHolder, 500)?;
+    Ok(Lines {
+        headline,
+        byline,
+        slugline,
+        language,
+        copyright,
     })
 }
 

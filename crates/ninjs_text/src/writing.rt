@@ -1,5 +1,5 @@
 //! Publications are written.
-ghost use Rattle.std.specs.Prelude.{◌≡◌, ◌<◌, ◌≤◌, ◌^◌, IfOk, Ok, Some, false, length, min};
+ghost use Rattle.std.specs.Prelude.{◌≡◌, ◌<◌, ◌≤◌, ◌^◌, IfOk, OnOk, Ok, Some, false, length, min};
 ghost use Rattle.serde_json.specs.Data.{object, depth};
 ghost use Rattle.serde_json.specs.Read.{max_depth};
 ghost use Rattle.serde_json.specs.View.{members_view};
@@ -54,37 +54,49 @@ fn members_of(
     ensures version { IfOk result (λ _. publication.now.version < 2 ^ 32) }
     ensures release { IfOk result (λ _. moment_of (moment_text publication.now.release) ≡ Some (min publication.now.release last_moment)) }
 {
-    let story = &publication.story;
-    let created = text_of_moment(publication.release);
     let mut members = Map::new(alloc);
-    put_text(
-        &mut members,
-        alloc,
-        body_key(story.html),
-        story.body.as_str(),
-    )?;
-    put_filled(&mut members, alloc, "byline", story.byline.as_str())?;
-    put_filled(
-        &mut members,
-        alloc,
-        "copyrightholder",
-        story.copyright.as_str(),
-    )?;
-    put_filled(&mut members, alloc, "headline", story.headline.as_str())?;
-    put_filled(&mut members, alloc, "language", story.language.as_str())?;
-    put_text(
-        &mut members,
-        alloc,
-        "pubstatus",
-        status_word(publication.kind),
-    )?;
-    put_filled(&mut members, alloc, "slugline", story.slugline.as_str())?;
-    put_text(&mut members, alloc, "type", story.kind.word())?;
-    put_urgency(&mut members, alloc, story.urgency)?;
-    put_text(&mut members, alloc, "uri", uri.as_str())?;
-    put_version(&mut members, alloc, publication.version)?;
-    put_text(&mut members, alloc, "versioncreated", created.as_str())?;
+    put_texts(&mut members, alloc, publication)?;
+    put_marks(&mut members, alloc, publication, uri)?;
     Ok(members)
+}
+
+/// Puts the texts of a publication, and its status.
+fn put_texts(
+    members: &mut Map<String, Value>,
+    alloc: Global,
+    publication: &Publication,
+) -> Result<(), AllocError>
+    ensures members { OnOk result (members_view members.new.entries ≡ said.put_texts publication.now (members_view members.old.entries)) }
+    ensures plain { members_have_float (members_view members.old.entries) ≡ false → OnOk result (members_have_float (members_view members.new.entries) ≡ false) }
+{
+    let story = &publication.story;
+    put_text(members, alloc, body_key(story.html), story.body.as_str())?;
+    put_filled(members, alloc, "byline", story.byline.as_str())?;
+    put_filled(members, alloc, "copyrightholder", story.copyright.as_str())?;
+    put_filled(members, alloc, "headline", story.headline.as_str())?;
+    put_filled(members, alloc, "language", story.language.as_str())?;
+    put_text(members, alloc, "pubstatus", status_word(publication.kind))?;
+    put_filled(members, alloc, "slugline", story.slugline.as_str())
+}
+
+/// Puts what else a publication says.
+fn put_marks(
+    members: &mut Map<String, Value>,
+    alloc: Global,
+    publication: &Publication,
+    uri: &Text,
+) -> Result<(), AllocError>
+    ensures members { OnOk result (members_view members.new.entries ≡ said.put_marks publication.now uri.now (members_view members.old.entries)) }
+    ensures plain { members_have_float (members_view members.old.entries) ≡ false → OnOk result (members_have_float (members_view members.new.entries) ≡ false) }
+    ensures version { OnOk result (publication.now.version < 2 ^ 32) }
+    ensures release { OnOk result (moment_of (moment_text publication.now.release) ≡ Some (min publication.now.release last_moment)) }
+{
+    put_text(members, alloc, "type", publication.story.kind.word())?;
+    put_urgency(members, alloc, publication.story.urgency)?;
+    put_text(members, alloc, "uri", uri.as_str())?;
+    put_version(members, alloc, publication.version)?;
+    let created = text_of_moment(publication.release);
+    put_text(members, alloc, "versioncreated", created.as_str())
 }
 
 fn body_key(html: bool) -> &'static str
