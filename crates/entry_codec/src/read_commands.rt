@@ -1,6 +1,6 @@
-//! Reading commands, eight tags at a time.
+//! Reading commands, a few tags at a time.
 
-ghost use Rattle.std.specs.Prelude.{◌≡◌};
+ghost use Rattle.std.specs.Prelude.{◌≡◌, ◌≤◌};
 ghost use Rattle.byte_formats.specs.Gives.{Gives};
 ghost use Rattle.entry_codec.specs.Commands.{command_at, desk_command_at, feed_command_at, draft_command_at, release_command_at, newer_command_at};
 
@@ -32,6 +32,32 @@ pub fn desk_command(alloc: Global, input: &mut Input, tag: u8) -> Result<Command
     ensures { Gives result input.new (desk_command_at tag input.old) }
 {
     match tag {
+        1..=4 => user_command(input, tag),
+        5 => Ok(Command::SetMember {
+            desk: input.name()?,
+            user: input.name()?,
+            member: input.flag()?,
+        }),
+        6 => condition(alloc, input),
+        7 => Ok(Command::AddFilter {
+            filter: input.name()?,
+            statements: Statements::of(list(alloc, input, 16)?),
+        }),
+        _ => Ok(Command::SetFilter {
+            filter: input.name()?,
+            statements: Statements::of(list(alloc, input, 16)?),
+        }),
+    }
+}
+
+/// Those of users, desks and stages.
+#[tactic(auto, unfolding(crate::specs::Commands::desk_command_at))]
+fn user_command(input: &mut Input, tag: u8) -> Result<Command, Stopped>
+    requires from { 1 ≤ tag }
+    requires to { tag ≤ 4 }
+    ensures { Gives result input.new (desk_command_at tag input.old) }
+{
+    match tag {
         1 => Ok(Command::AddUser {
             user: input.name()?,
             privileges: privileges(input)?,
@@ -47,31 +73,50 @@ pub fn desk_command(alloc: Global, input: &mut Input, tag: u8) -> Result<Command
             desk: input.name()?,
             stage: input.name()?,
         }),
-        5 => Ok(Command::SetMember {
-            desk: input.name()?,
-            user: input.name()?,
-            member: input.flag()?,
-        }),
-        6 => Ok(Command::AddCondition {
-            condition: input.name()?,
-            field: field(input)?,
-            op: op(input)?,
-            values: Texts::of(list(alloc, input, 64)?),
-        }),
-        7 => Ok(Command::AddFilter {
-            filter: input.name()?,
-            statements: Statements::of(list(alloc, input, 16)?),
-        }),
-        _ => Ok(Command::SetFilter {
-            filter: input.name()?,
-            statements: Statements::of(list(alloc, input, 16)?),
-        }),
+        _ => unreachable!(),
     }
+}
+
+/// A new condition, behind its tag.
+#[tactic(auto, unfolding(crate::specs::Commands::desk_command_at))]
+fn condition(alloc: Global, input: &mut Input) -> Result<Command, Stopped>
+    ensures { Gives result input.new (desk_command_at 6 input.old) }
+{
+    Ok(Command::AddCondition {
+        condition: input.name()?,
+        field: field(input)?,
+        op: op(input)?,
+        values: Texts::of(list(alloc, input, 64)?),
+    })
 }
 
 /// Those of blocks, products, subscribers, schemes and providers.
 #[tactic(auto, unfolding(crate::specs::Commands::feed_command_at))]
 pub fn feed_command(alloc: Global, input: &mut Input, tag: u8) -> Result<Command, Stopped>
+    ensures { Gives result input.new (feed_command_at tag input.old) }
+{
+    match tag {
+        9..=11 => product_command(alloc, input, tag),
+        12..=13 => subscriber_command(alloc, input, tag),
+        14 => Ok(Command::Resume {
+            subscriber: input.name()?,
+        }),
+        15 => Ok(Command::AddScheme {
+            scheme: input.name()?,
+            rules: Scheme::of(list(alloc, input, 64)?),
+        }),
+        _ => Ok(Command::AddProvider {
+            provider: input.name()?,
+            scheme: option(alloc, input)?,
+        }),
+    }
+}
+
+/// Those of blocks and products.
+#[tactic(auto, unfolding(crate::specs::Commands::feed_command_at))]
+fn product_command(alloc: Global, input: &mut Input, tag: u8) -> Result<Command, Stopped>
+    requires from { 9 ≤ tag }
+    requires to { tag ≤ 11 }
     ensures { Gives result input.new (feed_command_at tag input.old) }
 {
     match tag {
@@ -89,6 +134,18 @@ pub fn feed_command(alloc: Global, input: &mut Input, tag: u8) -> Result<Command
             how: how(input)?,
             filter: option(alloc, input)?,
         }),
+        _ => unreachable!(),
+    }
+}
+
+/// Those of subscribers without a lag.
+#[tactic(auto, unfolding(crate::specs::Commands::feed_command_at))]
+fn subscriber_command(alloc: Global, input: &mut Input, tag: u8) -> Result<Command, Stopped>
+    requires from { 12 ≤ tag }
+    requires to { tag ≤ 13 }
+    ensures { Gives result input.new (feed_command_at tag input.old) }
+{
+    match tag {
         12 => Ok(Command::AddSubscriber {
             subscriber: input.name()?,
             format: feed_format(input)?,
@@ -102,23 +159,37 @@ pub fn feed_command(alloc: Global, input: &mut Input, tag: u8) -> Result<Command
             off: names(alloc, input, 64)?,
             lag: None,
         }),
-        14 => Ok(Command::Resume {
-            subscriber: input.name()?,
-        }),
-        15 => Ok(Command::AddScheme {
-            scheme: input.name()?,
-            rules: Scheme::of(list(alloc, input, 64)?),
-        }),
-        _ => Ok(Command::AddProvider {
-            provider: input.name()?,
-            scheme: option(alloc, input)?,
-        }),
+        _ => unreachable!(),
     }
 }
 
 /// Those of items that are written and held.
 #[tactic(auto, unfolding(crate::specs::Commands::draft_command_at))]
 pub fn draft_command(alloc: Global, input: &mut Input, tag: u8) -> Result<Command, Stopped>
+    ensures { Gives result input.new (draft_command_at tag input.old) }
+{
+    match tag {
+        17..=20 => written_command(alloc, input, tag),
+        21 => Ok(Command::BreakLock { item: input.u32()? }),
+        22 => Ok(Command::Edit {
+            item: input.u32()?,
+            session: input.name()?,
+            story: story(alloc, input)?,
+        }),
+        23 => Ok(Command::MoveTo {
+            item: input.u32()?,
+            desk: input.name()?,
+            stage: input.name()?,
+        }),
+        _ => Ok(Command::Spike { item: input.u32()? }),
+    }
+}
+
+/// Those of items that are written and locked.
+#[tactic(auto, unfolding(crate::specs::Commands::draft_command_at))]
+fn written_command(alloc: Global, input: &mut Input, tag: u8) -> Result<Command, Stopped>
+    requires from { 17 ≤ tag }
+    requires to { tag ≤ 20 }
     ensures { Gives result input.new (draft_command_at tag input.old) }
 {
     match tag {
@@ -138,18 +209,7 @@ pub fn draft_command(alloc: Global, input: &mut Input, tag: u8) -> Result<Comman
             item: input.u32()?,
             session: input.name()?,
         }),
-        21 => Ok(Command::BreakLock { item: input.u32()? }),
-        22 => Ok(Command::Edit {
-            item: input.u32()?,
-            session: input.name()?,
-            story: story(alloc, input)?,
-        }),
-        23 => Ok(Command::MoveTo {
-            item: input.u32()?,
-            desk: input.name()?,
-            stage: input.name()?,
-        }),
-        _ => Ok(Command::Spike { item: input.u32()? }),
+        _ => unreachable!(),
     }
 }
 
@@ -167,6 +227,21 @@ pub fn release_command(alloc: Global, input: &mut Input, tag: u8) -> Result<Comm
             item: input.u32()?,
             desk: input.name()?,
         }),
+        27..=28 => published_command(alloc, input, tag),
+        29..=30 => withdrawn_command(alloc, input, tag),
+        31 => Ok(Command::Deschedule { item: input.u32()? }),
+        _ => Ok(Command::Stop),
+    }
+}
+
+/// Those of items that are published and corrected.
+#[tactic(auto, unfolding(crate::specs::Commands::release_command_at))]
+fn published_command(alloc: Global, input: &mut Input, tag: u8) -> Result<Command, Stopped>
+    requires from { 27 ≤ tag }
+    requires to { tag ≤ 28 }
+    ensures { Gives result input.new (release_command_at tag input.old) }
+{
+    match tag {
         27 => Ok(Command::Publish {
             item: input.u32()?,
             session: input.name()?,
@@ -179,6 +254,18 @@ pub fn release_command(alloc: Global, input: &mut Input, tag: u8) -> Result<Comm
             session: input.name()?,
             story: story(alloc, input)?,
         }),
+        _ => unreachable!(),
+    }
+}
+
+/// Those of items that are killed and recalled.
+#[tactic(auto, unfolding(crate::specs::Commands::release_command_at))]
+fn withdrawn_command(alloc: Global, input: &mut Input, tag: u8) -> Result<Command, Stopped>
+    requires from { 29 ≤ tag }
+    requires to { tag ≤ 30 }
+    ensures { Gives result input.new (release_command_at tag input.old) }
+{
+    match tag {
         29 => Ok(Command::Kill {
             item: input.u32()?,
             session: input.name()?,
@@ -189,14 +276,38 @@ pub fn release_command(alloc: Global, input: &mut Input, tag: u8) -> Result<Comm
             session: input.name()?,
             note: input.text(alloc, 524288)?,
         }),
-        31 => Ok(Command::Deschedule { item: input.u32()? }),
-        _ => Ok(Command::Stop),
+        _ => unreachable!(),
     }
 }
 
 /// Those with a copyright, and subscribers with a lag.
 #[tactic(auto, unfolding(crate::specs::Commands::newer_command_at))]
 pub fn newer_command(alloc: Global, input: &mut Input, tag: u8) -> Result<Command, Stopped>
+    ensures { Gives result input.new (newer_command_at tag input.old) }
+{
+    match tag {
+        33..=36 => credited_command(alloc, input, tag),
+        37 => Ok(Command::AddSubscriber {
+            subscriber: input.name()?,
+            format: feed_format(input)?,
+            products: names(alloc, input, 64)?,
+            lag: input.u32_from_one(604800)?,
+        }),
+        _ => Ok(Command::SetSubscriber {
+            subscriber: input.name()?,
+            active: input.flag()?,
+            products: names(alloc, input, 64)?,
+            off: names(alloc, input, 64)?,
+            lag: Some(input.u32_upto(604800)?),
+        }),
+    }
+}
+
+/// Those with a copyright.
+#[tactic(auto, unfolding(crate::specs::Commands::newer_command_at))]
+fn credited_command(alloc: Global, input: &mut Input, tag: u8) -> Result<Command, Stopped>
+    requires from { 33 ≤ tag }
+    requires to { tag ≤ 36 }
     ensures { Gives result input.new (newer_command_at tag input.old) }
 {
     match tag {
@@ -218,18 +329,6 @@ pub fn newer_command(alloc: Global, input: &mut Input, tag: u8) -> Result<Comman
             session: input.name()?,
             story: credited(alloc, input)?,
         }),
-        37 => Ok(Command::AddSubscriber {
-            subscriber: input.name()?,
-            format: feed_format(input)?,
-            products: names(alloc, input, 64)?,
-            lag: input.u32_from_one(604800)?,
-        }),
-        _ => Ok(Command::SetSubscriber {
-            subscriber: input.name()?,
-            active: input.flag()?,
-            products: names(alloc, input, 64)?,
-            off: names(alloc, input, 64)?,
-            lag: Some(input.u32_upto(604800)?),
-        }),
+        _ => unreachable!(),
     }
 }

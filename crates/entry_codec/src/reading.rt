@@ -91,14 +91,21 @@ pub fn act_behind(alloc: Global, input: &mut Input, tag: u8) -> Result<Act, Stop
             provider: input.name()?,
             incoming: incoming(alloc, input)?,
         }),
-        6 => Ok(Act::Request {
-            caller: input.name()?,
-            number: input.u64()?,
-            command: command(alloc, input)?,
-        }),
+        6 => request(alloc, input),
         _ => Ok(Act::Ingest {
             provider: input.name()?,
             incoming: credited_incoming(alloc, input)?,
         }),
     }
+}
+
+/// A request, behind its tag.
+fn request(alloc: Global, input: &mut Input) -> Result<Act, Stopped>
+    ensures { Gives result input.new ((act_fields 6).read input.old) }
+{
+    Ok(Act::Request {
+        caller: input.name()?,
+        number: input.u64()?,
+        command: command(alloc, input)?,
+    })
 }

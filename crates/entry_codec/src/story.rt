@@ -2,6 +2,8 @@
 
 ghost use Rattle.std.specs.Prelude.{◌≡◌, ◌++◌, [], OnOk, Ok};
 ghost use Rattle.byte_formats.specs.Except.{is_empty};
+ghost use Rattle.byte_formats.specs.Fields.{text, flag};
+ghost use Rattle.byte_formats.specs.Format.{pair};
 ghost use Rattle.byte_formats.specs.Gives.{Gives};
 ghost use Rattle.entry_codec.specs.Spelling.{story as story_bytes, plain_story, by_credit, incoming as incoming_bytes};
 ghost use Rattle.news_types.specs.Fits.{FitsStory, FitsIncoming};
@@ -14,23 +16,57 @@ use byte_formats::{Input, Stopped, put_text};
 use news_types::{Incoming, Moment, Story, Text};
 use std::alloc::{AllocError, Global};
 
+/// A story's language, category and body, and whether the body is HTML.
+type End = (Text, (Text, (Text, bool)));
+
 /// Reads a story without a copyright.
 #[tactic(auto, unfolding(crate::specs::Reading::story_at))]
 pub fn story(alloc: Global, input: &mut Input) -> Result<Story, Stopped>
     ensures { Gives result input.new (story_at input.old) }
 {
+    let copyright = no_text(alloc)?;
+    let kind = kind(input)?;
+    let urgency = input.byte(0, 9)?;
+    let (slugline, (headline, (byline, end))) = titled(alloc, input)?;
+    let (language, (category, (body, html))) = end;
     Ok(Story {
-        kind: kind(input)?,
-        urgency: input.byte(0, 9)?,
-        slugline: input.text(alloc, 500)?,
-        headline: input.text(alloc, 500)?,
-        byline: input.text(alloc, 500)?,
-        language: input.text(alloc, 35)?,
-        category: input.text(alloc, 3)?,
-        body: input.text(alloc, 524288)?,
-        html: input.flag()?,
-        copyright: no_text(alloc)?,
+        kind,
+        urgency,
+        slugline,
+        headline,
+        byline,
+        language,
+        category,
+        body,
+        html,
+        copyright,
     })
+}
+
+/// The slugline, the headline and the byline, and the end behind them.
+fn titled(alloc: Global, input: &mut Input) -> Result<(Text, (Text, (Text, End))), Stopped>
+    ensures { Gives result input.new ((pair (text 500) (pair (text 500) (pair (text 500) (pair (text 35) (pair (text 3) (pair (text 524288) flag)))))).read input.old) }
+{
+    Ok((
+        input.text(alloc, 500)?,
+        (
+            input.text(alloc, 500)?,
+            (input.text(alloc, 500)?, end(alloc, input)?),
+        ),
+    ))
+}
+
+/// The language, the category and the body, and whether the body is HTML.
+fn end(alloc: Global, input: &mut Input) -> Result<End, Stopped>
+    ensures { Gives result input.new ((pair (text 35) (pair (text 3) (pair (text 524288) flag))).read input.old) }
+{
+    Ok((
+        input.text(alloc, 35)?,
+        (
+            input.text(alloc, 3)?,
+            (input.text(alloc, 524288)?, input.flag()?),
+        ),
+    ))
 }
 
 /// Reads a story, and the copyright behind it.
