@@ -1,6 +1,6 @@
 //! Stories, and what providers send.
 
-ghost use Rattle.std.specs.Prelude.{◌≡◌, ◌++◌, [], OnOk, Ok};
+ghost use Rattle.std.specs.Prelude.{◌≡◌, ◌++◌, OnOk};
 ghost use Rattle.byte_formats.specs.Except.{is_empty};
 ghost use Rattle.byte_formats.specs.Fields.{text, flag};
 ghost use Rattle.byte_formats.specs.Format.{pair};
@@ -24,7 +24,6 @@ type End = (Text, (Text, (Text, bool)));
 pub fn story(alloc: Global, input: &mut Input) -> Result<Story, Stopped>
     ensures { Gives result input.new (story_at input.old) }
 {
-    let copyright = no_text(alloc)?;
     let kind = kind(input)?;
     let urgency = input.byte(0, 9)?;
     let (slugline, (headline, (byline, end))) = titled(alloc, input)?;
@@ -39,7 +38,7 @@ pub fn story(alloc: Global, input: &mut Input) -> Result<Story, Stopped>
         category,
         body,
         html,
-        copyright,
+        copyright: Text::of(String::new(alloc)),
     })
 }
 
@@ -77,13 +76,6 @@ pub fn credited(alloc: Global, input: &mut Input) -> Result<Story, Stopped>
     let mut story = story(alloc, input)?;
     story.copyright = input.some_text(alloc, 500)?;
     Ok(story)
-}
-
-/// The empty text.
-fn no_text(alloc: Global) -> Result<Text, Stopped>
-    ensures { Gives result [] (Ok ([], [])) }
-{
-    Ok(Text::copy_of(alloc, "")?)
 }
 
 /// Reads what a provider sends, a story without a copyright.
