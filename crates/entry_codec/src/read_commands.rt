@@ -286,7 +286,8 @@ pub fn newer_command(alloc: Global, input: &mut Input, tag: u8) -> Result<Comman
     ensures { Gives result input.new (newer_command_at tag input.old) }
 {
     match tag {
-        33..=36 => credited_command(alloc, input, tag),
+        33..=34 => credited_command(alloc, input, tag),
+        35..=36 => recredited_command(alloc, input, tag),
         37 => Ok(Command::AddSubscriber {
             subscriber: input.name()?,
             format: feed_format(input)?,
@@ -303,11 +304,11 @@ pub fn newer_command(alloc: Global, input: &mut Input, tag: u8) -> Result<Comman
     }
 }
 
-/// Those with a copyright.
+/// Those of new stories with a copyright.
 #[tactic(auto, unfolding(crate::specs::Commands::newer_command_at))]
 fn credited_command(alloc: Global, input: &mut Input, tag: u8) -> Result<Command, Stopped>
     requires from { 33 ≤ tag }
-    requires to { tag ≤ 36 }
+    requires to { tag ≤ 34 }
     ensures { Gives result input.new (newer_command_at tag input.old) }
 {
     match tag {
@@ -319,6 +320,18 @@ fn credited_command(alloc: Global, input: &mut Input, tag: u8) -> Result<Command
             story: credited(alloc, input)?,
             targets: names(alloc, input, 256)?,
         }),
+        _ => unreachable!(),
+    }
+}
+
+/// Those of edits and corrections with a copyright.
+#[tactic(auto, unfolding(crate::specs::Commands::newer_command_at))]
+fn recredited_command(alloc: Global, input: &mut Input, tag: u8) -> Result<Command, Stopped>
+    requires from { 35 ≤ tag }
+    requires to { tag ≤ 36 }
+    ensures { Gives result input.new (newer_command_at tag input.old) }
+{
+    match tag {
         35 => Ok(Command::Edit {
             item: input.u32()?,
             session: input.name()?,
