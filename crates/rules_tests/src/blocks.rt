@@ -1,6 +1,8 @@
 //! The filters that block, in their order, and one filter that is asked alone.
 
 use crate::tables::{Tables, name, story_of, take_all};
+use news_types::{Memory, Name};
+use std::process::Abort;
 use std::test::Fail;
 
 // `new` matches where `a` and `b` are true, or where `old` matches.
@@ -22,29 +24,48 @@ const UNBLOCKED: [&str; 1] = [
     r#"{"by":"admin","number":1,"do":"set_block","filter":"new","on":false}"#,
 ];
 
-#[test]
-fn blocks_are_listed_in_order(rt: HostRuntime) -> Result<(), Fail> {
-    let mut tables = Tables::new(rt.alloc())?;
-    let (old, new) = (name(&rt, "old"), name(&rt, "new"));
-    take_all(&rt, &mut tables, &FILTERS)?;
+/// Sets filters that block and one that no longer does, and looks at the list behind each.
+fn list_blocks(rt: &impl Abort, tables: &mut Tables) -> Result<(), Memory> {
+    let (old, new) = (name(rt, "old"), name(rt, "new"));
+    take_all(rt, tables, &FILTERS)?;
     assert!(rt; tables.filters.has(&old));
     assert!(rt; tables.filters.blocks().is_empty());
-    take_all(&rt, &mut tables, &BLOCKED)?;
+    take_all(rt, tables, &BLOCKED)?;
     assert!(rt; tables.filters.blocks() == [new, old].as_slice());
-    take_all(&rt, &mut tables, &UNBLOCKED)?;
+    take_all(rt, tables, &UNBLOCKED)?;
     assert!(rt; tables.filters.blocks() == [old].as_slice());
     Ok(())
 }
 
 #[test]
-fn a_filter_is_asked_alone(rt: HostRuntime) -> Result<(), Fail> {
-    let alloc = rt.alloc();
-    let mut tables = Tables::new(alloc)?;
-    take_all(&rt, &mut tables, &FILTERS)?;
-    let storm = story_of(alloc, r#"{"headline":"Storm","urgency":2}"#)?;
-    let calm = story_of(alloc, r#"{"headline":"Calm","urgency":1}"#)?;
-    let new = name(&rt, "new");
-    assert!(rt; tables.filters.matches(&new, &storm)?);
-    assert!(rt; !tables.filters.matches(&new, &calm)?);
+fn blocks_are_listed_in_order(rt: HostRuntime) -> Result<(), Fail> {
+    let mut tables = Tables::new(rt.alloc())?;
+    let listed = list_blocks(&rt, &mut tables);
+    drop(tables);
+    Ok(listed?)
+}
+
+/// Whether a filter matches a story of these properties.
+fn matches(tables: &Tables, filter: &Name, object: &str) -> Result<bool, Memory> {
+    let story = story_of(tables.allocator(), object)?;
+    let answer = tables.filters.matches(filter, &story);
+    drop(story);
+    answer
+}
+
+/// Asks one filter of two stories.
+fn ask_filter(rt: &impl Abort, tables: &mut Tables) -> Result<(), Memory> {
+    take_all(rt, tables, &FILTERS)?;
+    let new = name(rt, "new");
+    assert!(rt; matches(tables, &new, r#"{"headline":"Storm","urgency":2}"#)?);
+    assert!(rt; !matches(tables, &new, r#"{"headline":"Calm","urgency":1}"#)?);
     Ok(())
+}
+
+#[test]
+fn a_filter_is_asked_alone(rt: HostRuntime) -> Result<(), Fail> {
+    let mut tables = Tables::new(rt.alloc())?;
+    let asked = ask_filter(&rt, &mut tables);
+    drop(tables);
+    Ok(asked?)
 }

@@ -9,9 +9,13 @@ use std::test::Fail;
 fn ends(alloc: Global, stories: u32, count: u32) -> Result<bool, Memory> {
     let mut plan = Plan::new(alloc, stories, 0)?;
     for _ in 0..count {
-        plan.next()?;
+        drop(plan.next()?);
     }
-    Ok(plan.next()?.is_none())
+    let more = plan.next()?;
+    let ends = more.is_none();
+    drop(more);
+    drop(plan);
+    Ok(ends)
 }
 
 /// A desk with its member, three requests for each of eight products, and one for each of eight subscribers.

@@ -2,8 +2,7 @@
 //! the formats.
 
 use crate::tables::{Tables, name, story_of, take_all};
-use news_types::{Format, Kind, Memory, Name, Names};
-use std::alloc::Global;
+use news_types::{Format, Kind, Memory, Name};
 use std::process::Abort;
 use std::test::Fail;
 
@@ -17,77 +16,82 @@ const SUBSCRIBERS: [&str; 6] = [
     r#"{"by":"admin","number":1,"do":"add_subscriber","subscriber":"gamma","format":"ninjs","products":["p1"]}"#,
 ];
 
-/// Tables with these subscribers.
-fn with_subscribers(rt: &impl Abort, alloc: Global) -> Result<Tables, Memory> {
-    let mut tables = Tables::new(alloc)?;
-    take_all(rt, &mut tables, &SUBSCRIBERS)?;
-    Ok(tables)
-}
-
-/// To whom a publication of a story with an urgency of 3 is due.
-fn due(
-    alloc: Global,
+/// Whether a publication of a story with an urgency of 3 is due to these.
+fn is_due(
     tables: &Tables,
     kind: Kind,
     targets: &[Name],
     earlier: &[Name],
-) -> Result<Names, Memory> {
-    let story = story_of(alloc, r#"{"urgency":3}"#)?;
-    tables
+    wanted: &[Name],
+) -> Result<bool, Memory> {
+    let story = story_of(tables.allocator(), OTHER)?;
+    let due = tables
         .products
-        .due_list(&tables.filters, &story, targets, earlier, kind)
+        .due_list(&tables.filters, &story, targets, earlier, kind);
+    drop(story);
+    Ok(due?.as_slice() == wanted)
+}
+
+/// Asks who is due each kind of publication.
+fn ask_dues(rt: &impl Abort, tables: &mut Tables) -> Result<(), Memory> {
+    take_all(rt, tables, &SUBSCRIBERS)?;
+    let (alpha, beta) = (name(rt, "alpha"), name(rt, "beta"));
+    let gamma = name(rt, "gamma");
+    assert!(rt; is_due(tables, Kind::First, &[], &[gamma], &[alpha, beta])?);
+    assert!(rt; is_due(tables, Kind::Correct, &[alpha], &[gamma], &[alpha, gamma])?);
+    assert!(rt; is_due(tables, Kind::Correct, &[gamma], &[beta], &[beta])?);
+    assert!(rt; is_due(tables, Kind::Kill, &[alpha], &[gamma, beta], &[beta, gamma])?);
+    assert!(rt; is_due(tables, Kind::Recall, &[alpha], &[gamma], &[gamma])?);
+    Ok(())
 }
 
 #[test]
 fn targets_say_nothing_of_those_who_had_an_earlier_one(rt: HostRuntime) -> Result<(), Fail> {
-    let alloc = rt.alloc();
-    let tables = with_subscribers(&rt, alloc)?;
-    let (alpha, beta) = (name(&rt, "alpha"), name(&rt, "beta"));
-    let gamma = name(&rt, "gamma");
-    let first = due(alloc, &tables, Kind::First, &[], &[gamma])?;
-    assert!(rt; first.as_slice() == [alpha, beta].as_slice());
-    let correction = due(alloc, &tables, Kind::Correct, &[alpha], &[gamma])?;
-    assert!(rt; correction.as_slice() == [alpha, gamma].as_slice());
-    let correction = due(alloc, &tables, Kind::Correct, &[gamma], &[beta])?;
-    assert!(rt; correction.as_slice() == [beta].as_slice());
-    let kill = due(alloc, &tables, Kind::Kill, &[alpha], &[gamma, beta])?;
-    assert!(rt; kill.as_slice() == [beta, gamma].as_slice());
-    let recall = due(alloc, &tables, Kind::Recall, &[alpha], &[gamma])?;
-    assert!(rt; recall.as_slice() == [gamma].as_slice());
-    Ok(())
+    let mut tables = Tables::new(rt.alloc())?;
+    let asked = ask_dues(&rt, &mut tables);
+    drop(tables);
+    Ok(asked?)
 }
 
 /// Whether a story is permitted to a subscriber.
 fn is_permitted(
-    alloc: Global,
     tables: &Tables,
     story: &str,
     targets: &[Name],
     subscriber: &Name,
 ) -> Result<bool, Memory> {
-    let story = story_of(alloc, story)?;
-    tables
+    let story = story_of(tables.allocator(), story)?;
+    let permitted = tables
         .products
-        .permitted(&tables.filters, &story, targets, subscriber)
+        .permitted(&tables.filters, &story, targets, subscriber);
+    drop(story);
+    permitted
 }
 
 const URGENT: &str = r#"{"urgency":1}"#;
 
 const OTHER: &str = r#"{"urgency":3}"#;
 
+/// Asks for each subscriber, with targets and without.
+fn ask_permits(rt: &impl Abort, tables: &mut Tables) -> Result<(), Memory> {
+    take_all(rt, tables, &SUBSCRIBERS)?;
+    let (alpha, beta) = (name(rt, "alpha"), name(rt, "beta"));
+    let gamma = name(rt, "gamma");
+    assert!(rt; is_permitted(tables, OTHER, &[], &alpha)?);
+    assert!(rt; !is_permitted(tables, OTHER, &[beta], &alpha)?);
+    assert!(rt; is_permitted(tables, OTHER, &[beta, alpha], &alpha)?);
+    assert!(rt; is_permitted(tables, URGENT, &[], &gamma)?);
+    assert!(rt; !is_permitted(tables, OTHER, &[], &gamma)?);
+    assert!(rt; !is_permitted(tables, OTHER, &[gamma], &gamma)?);
+    Ok(())
+}
+
 #[test]
 fn one_subscriber_is_asked_for(rt: HostRuntime) -> Result<(), Fail> {
-    let alloc = rt.alloc();
-    let tables = with_subscribers(&rt, alloc)?;
-    let (alpha, beta) = (name(&rt, "alpha"), name(&rt, "beta"));
-    let gamma = name(&rt, "gamma");
-    assert!(rt; is_permitted(alloc, &tables, OTHER, &[], &alpha)?);
-    assert!(rt; !is_permitted(alloc, &tables, OTHER, &[beta], &alpha)?);
-    assert!(rt; is_permitted(alloc, &tables, OTHER, &[beta, alpha], &alpha)?);
-    assert!(rt; is_permitted(alloc, &tables, URGENT, &[], &gamma)?);
-    assert!(rt; !is_permitted(alloc, &tables, OTHER, &[], &gamma)?);
-    assert!(rt; !is_permitted(alloc, &tables, OTHER, &[gamma], &gamma)?);
-    Ok(())
+    let mut tables = Tables::new(rt.alloc())?;
+    let asked = ask_permits(&rt, &mut tables);
+    drop(tables);
+    Ok(asked?)
 }
 
 const SET: [&str; 3] = [
@@ -96,14 +100,22 @@ const SET: [&str; 3] = [
     r#"{"by":"admin","number":1,"do":"set_subscriber","subscriber":"beta","active":false,"products":["all"]}"#,
 ];
 
+/// Sets a product and two subscribers, and asks for each subscriber's format.
+fn ask_formats(rt: &impl Abort, tables: &mut Tables) -> Result<(), Memory> {
+    take_all(rt, tables, &SUBSCRIBERS)?;
+    take_all(rt, tables, &SET)?;
+    let products = &tables.products;
+    assert!(rt; products.format(&name(rt, "alpha")) == Some(Format::Text7901));
+    assert!(rt; products.format(&name(rt, "beta")) == Some(Format::Ninjs));
+    assert!(rt; products.format(&name(rt, "gamma")) == Some(Format::Ninjs));
+    assert!(rt; products.format(&name(rt, "delta")) == None);
+    Ok(())
+}
+
 #[test]
 fn a_setting_keeps_the_format(rt: HostRuntime) -> Result<(), Fail> {
-    let mut tables = with_subscribers(&rt, rt.alloc())?;
-    take_all(&rt, &mut tables, &SET)?;
-    let products = &tables.products;
-    assert!(rt; products.format(&name(&rt, "alpha")) == Some(Format::Text7901));
-    assert!(rt; products.format(&name(&rt, "beta")) == Some(Format::Ninjs));
-    assert!(rt; products.format(&name(&rt, "gamma")) == Some(Format::Ninjs));
-    assert!(rt; products.format(&name(&rt, "delta")) == None);
-    Ok(())
+    let mut tables = Tables::new(rt.alloc())?;
+    let asked = ask_formats(&rt, &mut tables);
+    drop(tables);
+    Ok(asked?)
 }

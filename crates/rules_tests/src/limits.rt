@@ -29,6 +29,14 @@ fn fill(rt: &impl Abort, tables: &mut Tables, limit: &Limit) -> Result<(), Memor
     Ok(())
 }
 
+/// Adds these until there are too many of each.
+fn fill_all(rt: &impl Abort, tables: &mut Tables, limits: &[Limit]) -> Result<(), Memory> {
+    for limit in limits {
+        fill(rt, tables, limit)?;
+    }
+    Ok(())
+}
+
 const CITY: &str = r#"{"by":"admin","number":1,"do":"add_desk","desk":"city"}"#;
 
 // One user is there from the start, and a desk has two stages.
@@ -66,15 +74,19 @@ const TABLES: [Limit; 4] = [
 /// What is asked for once there are as many as may be.
 const LAYOUT: &str = r#"{"by":"admin","number":1,"do":"add_stage","desk":"n0","stage":"layout"}"#;
 
+/// Fills the tables of desks and conditions.
+fn fill_tables(rt: &impl Abort, tables: &mut Tables) -> Result<(), Memory> {
+    take_all(rt, tables, &[CITY])?;
+    fill_all(rt, tables, &TABLES)?;
+    take_all(rt, tables, &[LAYOUT])
+}
+
 #[test]
 fn tables_are_full_at_their_limits(rt: HostRuntime) -> Result<(), Fail> {
     let mut tables = Tables::new(rt.alloc())?;
-    take_all(&rt, &mut tables, &[CITY])?;
-    for limit in TABLES.iter() {
-        fill(&rt, &mut tables, limit)?;
-    }
-    take_all(&rt, &mut tables, &[LAYOUT])?;
-    Ok(())
+    let filled = fill_tables(&rt, &mut tables);
+    drop(tables);
+    Ok(filled?)
 }
 
 // The product `all` is there from the start, and counts.
@@ -154,16 +166,21 @@ const SET: [&str; 2] = [
     r#"{"by":"admin","number":1,"do":"set_subscriber","subscriber":"n0","products":["n0","n1022"],"off":["f2"]}"#,
 ];
 
+/// Fills the tables of products and subscribers.
+fn fill_products(rt: &impl Abort, tables: &mut Tables) -> Result<(), Memory> {
+    take_all(rt, tables, &FILTERS)?;
+    fill_all(rt, tables, &PRODUCTS)?;
+    for (line, denial) in DENIED.iter() {
+        let denied = tables.answer(line)?;
+        assert!(rt; denied == Some(*denial), "{line}");
+    }
+    take_all(rt, tables, &SET)
+}
+
 #[test]
 fn products_and_subscribers_are_full_at_their_limits(rt: HostRuntime) -> Result<(), Fail> {
     let mut tables = Tables::new(rt.alloc())?;
-    take_all(&rt, &mut tables, &FILTERS)?;
-    for limit in PRODUCTS.iter() {
-        fill(&rt, &mut tables, limit)?;
-    }
-    for (line, denial) in DENIED.iter() {
-        assert!(rt; tables.answer(line)? == Some(*denial), "{line}");
-    }
-    take_all(&rt, &mut tables, &SET)?;
-    Ok(())
+    let filled = fill_products(&rt, &mut tables);
+    drop(tables);
+    Ok(filled?)
 }

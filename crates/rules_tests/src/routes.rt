@@ -2,9 +2,10 @@
 
 use crate::tables::{Tables, name, story_of, take_all};
 use desk_lines::{Asked, read_line};
-use news_types::{Command, Name, RouteAction, Scheme};
-use routing_rules::{judge_scheme, route};
+use news_types::{Command, Memory, Name, RouteAction, Scheme};
+use routing_rules::{Actions, judge_scheme, route};
 use std::alloc::Global;
+use std::process::Abort;
 use std::test::Fail;
 
 const URGENT: [&str; 2] = [
@@ -33,24 +34,51 @@ fn fetch(desk: Name, stage: Name) -> RouteAction {
     RouteAction::Fetch { desk, stage }
 }
 
+/// What a scheme asks for a story of these properties. What is no scheme is told as want of memory.
+fn actions_of(tables: &Tables, scheme: &Scheme, object: &str) -> Result<Actions, Memory> {
+    if !judge_scheme(scheme)? {
+        return Err(Memory);
+    }
+    let story = story_of(tables.allocator(), object)?;
+    let actions = route(scheme, &tables.filters, &story, 0);
+    drop(story);
+    actions
+}
+
+/// Whether a scheme asks for these actions.
+fn asks_for(
+    tables: &Tables,
+    scheme: &Scheme,
+    object: &str,
+    wanted: &[RouteAction],
+) -> Result<bool, Memory> {
+    Ok(actions_of(tables, scheme, object)?.as_slice() == wanted)
+}
+
+/// Asks the chain of an urgent story and of another.
+fn ask_chain(rt: &impl Abort, tables: &mut Tables, scheme: &Scheme) -> Result<(), Memory> {
+    take_all(rt, tables, &URGENT)?;
+    let incoming = name(rt, "incoming");
+    let city = fetch(name(rt, "city"), incoming);
+    let sport = fetch(name(rt, "sport"), incoming);
+    let culture = fetch(name(rt, "culture"), incoming);
+    let urgent = [city, sport, RouteAction::Publish, RouteAction::Exit];
+    assert!(rt; asks_for(tables, scheme, r#"{"urgency":1}"#, &urgent)?);
+    assert!(rt; asks_for(tables, scheme, r#"{"urgency":2}"#, &[city, culture])?);
+    Ok(())
+}
+
 #[test]
 fn rules_up_to_the_first_exit(rt: HostRuntime) -> Result<(), Fail> {
-    let alloc = rt.alloc();
-    let mut tables = Tables::new(alloc)?;
-    take_all(&rt, &mut tables, &URGENT)?;
-    let scheme = scheme_of(alloc, CHAIN).expect(&rt, "a scheme");
-    assert!(rt; judge_scheme(&scheme)?);
-    let incoming = name(&rt, "incoming");
-    let city = fetch(name(&rt, "city"), incoming);
-    let sport = fetch(name(&rt, "sport"), incoming);
-    let culture = fetch(name(&rt, "culture"), incoming);
-    let urgent = story_of(alloc, r#"{"urgency":1}"#)?;
-    let actions = route(&scheme, &tables.filters, &urgent, 0)?;
-    assert!(rt;
-        actions.as_slice() == [city, sport, RouteAction::Publish, RouteAction::Exit].as_slice()
-    );
-    let other = story_of(alloc, r#"{"urgency":2}"#)?;
-    let actions = route(&scheme, &tables.filters, &other, 0)?;
-    assert!(rt; actions.as_slice() == [city, culture].as_slice());
-    Ok(())
+    let mut tables = Tables::new(rt.alloc())?;
+    let asked = match scheme_of(rt.alloc(), CHAIN) {
+        Some(scheme) => {
+            let asked = ask_chain(&rt, &mut tables, &scheme);
+            drop(scheme);
+            asked
+        }
+        None => Err(Memory),
+    };
+    drop(tables);
+    Ok(asked?)
 }

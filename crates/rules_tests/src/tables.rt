@@ -1,10 +1,15 @@
 //! Desks, filters and products, which take the lines of a batch.
+ghost use Rattle.std.specs.Prelude.{◌≡◌, IfOk, None};
+ghost use Rattle.content_filters.specs.Changes.{HasRoom as HasFilterRoom};
+ghost use Rattle.content_filters.specs.Reasons.{filter_operand};
+ghost use Rattle.desk_rules.specs.Steps.{HasRoom as HasDeskRoom};
+ghost use Rattle.products.specs.Steps.{HasRoom as HasProductRoom};
 
-use content_filters::Filters;
+use content_filters::{FilterChange, Filters};
 use desk_lines::{Asked, read_line, read_story};
-use desk_rules::Desks;
+use desk_rules::{DeskChange, Desks};
 use news_types::{Command, Denial, Memory, Name, Story};
-use products::Products;
+use products::{ProductChange, Products};
 use std::alloc::Global;
 use std::process::Abort;
 
@@ -15,6 +20,14 @@ pub(crate) struct Tables {
     pub(crate) desks: Desks,
     pub(crate) filters: Filters,
     pub(crate) products: Products,
+}
+
+/// A change, with the memory for it taken.
+#[derive(Drop)]
+struct Change {
+    desks: DeskChange,
+    filters: FilterChange,
+    products: ProductChange,
 }
 
 impl Tables {
@@ -35,19 +48,30 @@ impl Tables {
     /// Does what a request asks for: why it is denied, if it is. What is no request is told as want of memory.
     pub(crate) fn answer(&mut self, line: &str) -> Result<Option<Denial>, Memory> {
         match read_line(self.alloc, line.as_bytes()) {
-            Ok(
-                Asked::Request {
-                    caller,
-                    command,
-                    ..
-                },
-            ) => {
-                let denial = self.take(&caller, &command);
-                drop(command);
-                denial
-            }
-            _ => Err(Memory),
+            Ok(asked) => self.answer_asked(asked),
+            Err(_) => Err(Memory),
         }
+    }
+
+    fn answer_asked(&mut self, asked: Asked) -> Result<Option<Denial>, Memory> {
+        match asked {
+            Asked::Request {
+                caller,
+                number: _,
+                command,
+            } => self.request(caller, command),
+            Asked::Query(query) => {
+                drop(query);
+                Err(Memory)
+            }
+            Asked::Receipt { .. } => Err(Memory),
+        }
+    }
+
+    fn request(&mut self, caller: Name, command: Command) -> Result<Option<Denial>, Memory> {
+        let denial = self.take(&caller, &command);
+        drop(command);
+        denial
     }
 
     /// Asks each table, prepares and commits.
@@ -56,16 +80,43 @@ impl Tables {
             return Ok(Some(refusal.denial));
         }
         let denial = self.denied(command);
-        if denial.is_some() {
-            return Ok(denial);
+        if denial.is_none() {
+            let change = self.prepare(caller, command)?;
+            self.commit(change);
         }
+        Ok(denial)
+    }
+
+    /// Takes the memory for a command.
+    fn prepare(&mut self, caller: &Name, command: &Command) -> Result<Change, Memory>
+        requires { filter_operand command.now ≡ None }
+        ensures desks { IfOk result (λ change. HasDeskRoom self.new.desks change.desks) }
+        ensures filters { IfOk result (λ change. HasFilterRoom self.new.filters change.filters) }
+        ensures products { IfOk result (λ change. HasProductRoom self.new.products change.products) }
+    {
         let desks = self.desks.prepare(caller, command)?;
         let filters = self.filters.prepare(command)?;
         let products = self.products.prepare(command)?;
+        Ok(Change {
+            desks,
+            filters,
+            products,
+        })
+    }
+
+    fn commit(&mut self, change: Change)
+        requires desks { HasDeskRoom self.old.desks change.desks }
+        requires filters { HasFilterRoom self.old.filters change.filters }
+        requires products { HasProductRoom self.old.products change.products }
+    {
+        let Change {
+            desks,
+            filters,
+            products,
+        } = change;
         self.desks.commit(desks);
         self.filters.commit(filters);
         self.products.commit(products);
-        Ok(None)
     }
 
     /// Why the desks or the products deny a command, if they do.
