@@ -3,12 +3,18 @@
 
 The run has to end with status 9 and the answers so far, or with 0 and all of them. The lines that were not answered are then sent to
 the log that it left, and the log has to be, byte for byte, the one that the session makes when nothing is refused.
+
+Then `newsdesk drain` of a flashed story, with its claim and its receipt, and `newsdesk pack` behind it, once for each of their allocations.
+Each has to end with status 9, or as it does when nothing is refused; once more without refusal, the receiver has the story, and the list
+is as long behind the packing as before it.
 """
 import json
 import os
+import socket
 import subprocess
 import sys
 import tempfile
+import threading
 
 AT = "1893456000"
 TOP = os.path.dirname(os.path.dirname(os.path.abspath(__file__)))
@@ -35,8 +41,8 @@ class Store:
         self.program = os.path.join(TOP, "crates/newsdesk/out/newsdesk")
         subprocess.run([NEWSDESK, "--version"], check=True, stdout=subprocess.DEVNULL)
 
-    def run(self, words, lines="", refuse=None):
-        env = {**os.environ, "LD_PRELOAD": self.shim, "AT": AT, "MARK": self.mark}
+    def run(self, words, lines="", refuse=None, at=AT):
+        env = {**os.environ, "LD_PRELOAD": self.shim, "AT": at, "MARK": self.mark}
         if refuse:
             env["REFUSE"] = str(refuse)
         return subprocess.run([self.program, *words], input=lines, capture_output=True, text=True, env=env)
@@ -65,6 +71,68 @@ def answered(run):
     return lines if run.returncode == 0 else None
 
 
+STORY = [
+    '{"by":"admin","number":1,"do":"add_subscriber","subscriber":"alpha","format":"ninjs","products":["all"]}\n',
+    '{"by":"admin","number":2,"do":"flash","story":{"headline":"Fire","slugline":"fire","language":"en","urgency":3,"body":"Smoke."}}\n',
+    # it is published, and so denied
+    '{"by":"admin","number":3,"do":"deschedule","item":1}\n',
+]
+
+
+class Receiver:
+    """A receiver of `alpha` in this process: how many entries of its feed it has."""
+
+    def __init__(self):
+        self.count = 0
+        self.door = socket.create_server(("127.0.0.1", 0))
+        self.address = "127.0.0.1:%d" % self.door.getsockname()[1]
+        threading.Thread(target=self.serve, daemon=True).start()
+
+    def serve(self):
+        while True:
+            connection, _ = self.door.accept()
+            with connection, connection.makefile("rb") as frames:
+                for heading in frames:
+                    _, name, k, length = heading.split(b" ")
+                    if len(frames.read(int(length))) < int(length):
+                        break
+                    if int(k) == self.count + 1:
+                        self.count += 1
+                    connection.sendall(b"RECEIPT %s %d\n" % (name, self.count))
+
+
+def entries(store):
+    """How many entries the store's list has."""
+    checked = store.run(["check", store.log])
+    checked.check_returncode()
+    return json.loads(checked.stdout.splitlines()[-1])
+
+
+def refuse_each(store, words, receiver, is_right):
+    """Does a command once for each of its allocations, which is refused: how many there were."""
+    number = 0
+    while True:
+        number += 1
+        receiver.count = 0
+        store.begin()
+        store.run(["batch", store.log], "".join(STORY)).check_returncode()
+        if words[0] == "pack":
+            store.run(["drain", store.log, "alpha", receiver.address]).check_returncode()
+        before = entries(store)
+        run = store.run(words, refuse=number)
+        was_refused = store.was_refused()
+        if run.returncode not in (0, NO_MEMORY) or not is_right(store, before):
+            sys.exit(f"{words[0]}, allocation {number}: status {run.returncode}, {run.stdout}{run.stderr}")
+        if not was_refused:
+            return number - 1
+
+
+def is_delivered(store, receiver):
+    """Whether the story arrives behind a drain that was refused memory. Its next attempt waits for the feed's delay."""
+    late = store.run(["drain", store.log, "alpha", receiver.address], at="1893556000")
+    return late.returncode == 0 and receiver.count == 1
+
+
 def main():
     lines = page_lines()
     with tempfile.TemporaryDirectory(dir="/dev/shm") as folder:
@@ -87,7 +155,13 @@ def main():
             rest = store.run(["batch", store.log], "".join(lines[len(given):]))
             if rest.returncode or store.bytes() != log:
                 sys.exit(f"allocation {number}: the session went on to another log: {rest.stdout}")
-    print(f"{number - 1} allocations were refused, {starved} runs ended for want of memory, and no list was another one")
+        print(f"{number - 1} allocations were refused, {starved} runs ended for want of memory, and no list was another one")
+        receiver = Receiver()
+        drain = ["drain", store.log, "alpha", receiver.address]
+        number = refuse_each(store, drain, receiver, lambda store, before: is_delivered(store, receiver))
+        print(f"drain: {number} allocations were refused, and the story arrived each time")
+        number = refuse_each(store, ["pack", store.log], receiver, lambda store, before: entries(store) == before)
+        print(f"pack: {number} allocations were refused, and no list was another one")
 
 
 main()
