@@ -18,6 +18,7 @@ use Rattle.news_room.specs.declared.answers.Handled.{Handled}
 use Rattle.news_room.specs.declared.answers.Kept as kept
 use Rattle.news_room.specs.declared.room.Room.{Room}
 use Rattle.news_room.proofs.Appends.{told_none}
+use Rattle.news_room.proofs.Limits.{receipt_limit}
 use Rattle.desk_routes.specs.declared.ask.HttpAsk.{HttpAsk}
 use Rattle.desk_routes.specs.declared.ask.HttpAsk.TheVariants as ask
 use Rattle.desk_routes.specs.declared.response.Response.{Response}
@@ -72,7 +73,7 @@ module _ {K : Type 0} (keeper : KeeperMeaning K) where
   receipt_turn old new b more subscriber n now answered response h heard =
       subst (λ (o : HttpOutcome). HttpTurn keeper old new b more o response (Calls keeper old new b more (Receipted subscriber n) now response)) (sym (received (the_writer b.store) b.list subscriber n (moment_at b.list now)))
       (call_turn old new b more (Receipted subscriber n) now (said_kept answered) response (replied (receipt b.list subscriber n now)) h.stands h.event h.told heard
-      (comes_received (numbers keeper old new) more (receipt b.list subscriber n now) answered response h.step heard))
+      (comes_received (numbers keeper old new) more (receipt b.list subscriber n now) answered response (receipt_limit b.list subscriber n (moment_at b.list now)) h.step heard))
 
   -- ---- what is asked, by its kind
 

@@ -1,5 +1,5 @@
 -- How much of an outcome came, by what the room answered.
-use Rattle.std.proofs.Common.{◌≡◌, inl, inr, List, [], Ok, Err, refl, sym, subst}
+use Rattle.std.proofs.Common.{◌≡◌, inl, inr, ℕ, List, [], Ok, Err, refl, sym, subst}
 use Rattle.std.specs.Prelude.{Result, IfOk}
 use Rattle.news_types.specs.declared.entry.Entry.{Entry}
 use Rattle.news_types.specs.declared.query.Answer.{Answer as Told}
@@ -9,9 +9,9 @@ use Rattle.news_types.specs.Outcome as outcome
 use Rattle.news_types.specs.Calls.{Memory}
 use Rattle.news_io.specs.Keeper.{KeeperMeaning}
 use Rattle.news_room.specs.Beside.{Beside}
-use Rattle.news_room.specs.Stands.{LIMIT, numbers}
+use Rattle.news_room.specs.Stands.{LIMIT, limit_for, numbers}
 use Rattle.news_room.specs.Said.{said, said_kept, said_told}
-use Rattle.news_room.specs.Steps.{Given, Answers, Receives, entries}
+use Rattle.news_room.specs.Steps.{Given, Refused, Failed, Answers, Receives, entries}
 use Rattle.news_room.specs.declared.answers.Handled.{Handled}
 use Rattle.news_room.specs.declared.answers.Kept as kept
 use Rattle.news_room.specs.declared.room.Room.{Room}
@@ -24,7 +24,7 @@ use Rattle.feed_http.specs.Turn.{IsToldAs, IsTold, Comes, whole, full, failed, s
 use Rattle.feed_http.proofs.Outcomes.{replied}
 
 -- a response with its entries, all of which are kept
-pub told_whole : (n : Beside) (o : HttpOutcome) (more : List Entry) (response : Response) → IsToldAs o.response response → Given n LIMIT o.adds more → Comes n o more response
+pub told_whole : (n : Beside) (o : HttpOutcome) (more : List Entry) (response : Response) → IsToldAs o.response response → Given n (limit_for o.adds) o.adds more → Comes n o more response
 told_whole n o more response (inl is) given = whole is given
 told_whole n o more response (inr none) given = starved none (inr given)
 
@@ -32,7 +32,7 @@ pub no_memory : (response : Response) → IsTold Memory response → response �
 no_memory response (inl is) = is
 no_memory response (inr is) = is
 
-told_replied : (n : Beside) (more : List Entry) (o : Outcome outcome.Answered) (a : outcome.Answered) (response : Response) → o.answer ≡ a → IsToldAs (answered_response a) response → Given n LIMIT (entries o.more) more → Comes n (replied o) more response
+told_replied : (n : Beside) (more : List Entry) (o : Outcome outcome.Answered) (a : outcome.Answered) (response : Response) → o.answer ≡ a → IsToldAs (answered_response a) response → Given n (limit_for (entries o.more)) (entries o.more) more → Comes n (replied o) more response
 told_replied n more o a response is told given = told_whole n (replied o) more response (subst (λ (x : outcome.Answered). IsToldAs (answered_response x) response) (sym is) told) given
 
 pub comes_answered : (n : Beside) (more : List Entry) (o : Outcome outcome.Answered) (answered : Handled) (response : Response) → Answers n more o answered → IsTold (said answered) response → Comes n (replied o) more response
@@ -43,14 +43,16 @@ comes_answered n more o Handled.Fault response step told = failed told step
 comes_answered n more o (Handled.Full size count) response step told = full size count told step
 comes_answered n more o Handled.Memory response step told = starved (no_memory response told) (inl step)
 
-pub comes_received : (n : Beside) (more : List Entry) (o : Outcome outcome.Answered) (answered : kept.Kept) (response : Response) → Receives n more o answered → IsTold (said_kept answered) response → Comes n (replied o) more response
-comes_received n more o (kept.Kept.Done reply) response step told = told_replied n more o (outcome.Done reply) response step.0 told step.1
-comes_received n more o (kept.Kept.Denied denial) response step told = told_replied n more o (outcome.Denied denial) response step.0 told step.1
-comes_received n more o kept.Kept.Fault response step told = failed told step
-comes_received n more o (kept.Kept.Full size count) response step told = full size count told step
+pub comes_received : (n : Beside) (more : List Entry) (o : Outcome outcome.Answered) (answered : kept.Kept) (response : Response) → limit_for (entries o.more) ≡ LIMIT → Receives n more o answered → IsTold (said_kept answered) response → Comes n (replied o) more response
+comes_received n more o (kept.Kept.Done reply) response same step told =
+    told_replied n more o (outcome.Done reply) response step.0 told (subst (λ (l : ℕ). Given n l (entries o.more) more) (sym same) step.1)
+comes_received n more o (kept.Kept.Denied denial) response same step told =
+    told_replied n more o (outcome.Denied denial) response step.0 told (subst (λ (l : ℕ). Given n l (entries o.more) more) (sym same) step.1)
+comes_received n more o kept.Kept.Fault response same step told = failed told (subst (λ (l : ℕ). Failed n l (entries o.more) more) (sym same) step)
+comes_received n more o (kept.Kept.Full size count) response same step told = full size count told (subst (λ (l : ℕ). Refused n l (entries o.more) more size count) (sym same) step)
 
 -- the answer to a question, behind a tick that kept all that follows
-pub comes_heard : (n : Beside) (wanted : HttpOutcome) (more : List Entry) (found : Result Told NoMemory) (response : Response) → IfOk found (λ told. answer_response told ≡ wanted.response) → IsTold (said_told found) response → Given n LIMIT wanted.adds more → Comes n wanted more response
+pub comes_heard : (n : Beside) (wanted : HttpOutcome) (more : List Entry) (found : Result Told NoMemory) (response : Response) → IfOk found (λ told. answer_response told ≡ wanted.response) → IsTold (said_told found) response → Given n (limit_for wanted.adds) wanted.adds more → Comes n wanted more response
 comes_heard n wanted more (Ok told) response is heard given = told_whole n wanted more response (subst (λ (r : Response). IsToldAs r response) is heard) given
 comes_heard n wanted more (Err why) response is heard given = starved (no_memory response heard) (inr given)
 

@@ -15,12 +15,13 @@ use Rattle.news_types.specs.Calls as call
 use Rattle.news_io.specs.Keeper.{KeeperMeaning}
 use Rattle.feed_frames.specs.Writer.{the_writer}
 use Rattle.news_room.specs.Beside.{Beside}
-use Rattle.news_room.specs.Stands.{Stands, LIMIT, numbers}
+use Rattle.news_room.specs.Stands.{Stands, LIMIT, limit_for, numbers}
 use Rattle.news_room.specs.Said.{said_tick, said_told, is_failure}
 use Rattle.news_room.specs.Steps.{Given, Refused, Failed, TickStep, tick_entries, ToldStep, entries}
 use Rattle.news_room.specs.Events.{IsEvent, Happens}
 use Rattle.news_room.specs.declared.answers.Ticked as tick
 use Rattle.news_room.specs.declared.room.Room.{Room}
+use Rattle.news_room.proofs.Limits.{tick_limit}
 use Rattle.desk_routes.specs.declared.response.Response.{Response}
 use Rattle.desk_routes.specs.declared.response.Notice.TheVariants as notice
 use Rattle.desk_routes.specs.declared.ask.HttpAsk.TheVariants as ask
@@ -97,7 +98,7 @@ module _ {K : Type 0} (keeper : KeeperMeaning K) (room : Room K) (b : Book) (que
 
 module _ {K : Type 0} (keeper : KeeperMeaning K) (old new : Room K) (b : Book) (more : List Entry) (question : Query) (now : ℕ) (response : Response) (wanted : HttpOutcome) where
   -- the tick was not refused
-  turn_kept : (t : tick.Ticked) (found : Result Told NoMemory) → is_passed t ≡ true → Stands keeper new (onto more b) → IsEvent keeper old new b more Ticked now (said_tick t) → Given (numbers keeper old new) LIMIT wanted.adds more
+  turn_kept : (t : tick.Ticked) (found : Result Told NoMemory) → is_passed t ≡ true → Stands keeper new (onto more b) → IsEvent keeper old new b more Ticked now (said_tick t) → Given (numbers keeper old new) (limit_for wanted.adds) wanted.adds more
       → (b.told ≡ true → ToldStep keeper old new b wanted.adds more (is_failure (said_tick t))) → IfOk found (λ told. answer_response told ≡ wanted.response) → IsEvent keeper new new (onto more b) [] (Asked question) now (said_told found) → IsTold (said_told found) response
       → HttpTurn keeper old new b more wanted response (TicksAndAsks keeper old new b more question now response)
   turn_kept t found passed stands event given told answers asks heard = record {
@@ -108,7 +109,7 @@ module _ {K : Type 0} (keeper : KeeperMeaning K) (old new : Room K) (b : Book) (
   }
 
   -- the keeper failed at it
-  turn_failed : Stands keeper new (onto more b) → IsEvent keeper old new b more Ticked now Fault → Failed (numbers keeper old new) LIMIT wanted.adds more → (b.told ≡ true → ToldStep keeper old new b wanted.adds more true) → response ≡ notice_response notice.Fault
+  turn_failed : Stands keeper new (onto more b) → IsEvent keeper old new b more Ticked now Fault → Failed (numbers keeper old new) (limit_for wanted.adds) wanted.adds more → (b.told ≡ true → ToldStep keeper old new b wanted.adds more true) → response ≡ notice_response notice.Fault
       → HttpTurn keeper old new b more wanted response (TicksAndAsks keeper old new b more question now response)
   turn_failed stands event lost told is = record {
     stands = stands;
@@ -118,7 +119,7 @@ module _ {K : Type 0} (keeper : KeeperMeaning K) (old new : Room K) (b : Book) (
   }
 
   -- it would have passed the limit
-  turn_full : (size count : ℕ) → Stands keeper new (onto more b) → IsEvent keeper old new b more Ticked now Full → Refused (numbers keeper old new) LIMIT wanted.adds more size count → (b.told ≡ true → ToldStep keeper old new b wanted.adds more false) → response ≡ notice_response notice.Full
+  turn_full : (size count : ℕ) → Stands keeper new (onto more b) → IsEvent keeper old new b more Ticked now Full → Refused (numbers keeper old new) (limit_for wanted.adds) wanted.adds more size count → (b.told ≡ true → ToldStep keeper old new b wanted.adds more false) → response ≡ notice_response notice.Full
       → HttpTurn keeper old new b more wanted response (TicksAndAsks keeper old new b more question now response)
   turn_full size count stands event refused told is = record {
     stands = stands;
@@ -137,11 +138,14 @@ module _ {K : Type 0} (keeper : KeeperMeaning K) (old new : Room K) (b : Book) (
   question_turn t found is h answers asks heard =
       let given : Given (numbers keeper old new) LIMIT (tick_entries b.list (moment_at b.list now)) more = tick_given (numbers keeper old new) b now more t (passed_on t is) h.step in
       as_asked
-      (turn_kept keeper old new b more question now response (questioned (the_writer b.store) b.list (moment_at b.list now) question) t found (passed_on t is) h.stands h.event given h.told
+      (turn_kept keeper old new b more question now response (questioned (the_writer b.store) b.list (moment_at b.list now) question) t found (passed_on t is) h.stands h.event
+      (subst (λ (l : ℕ). Given (numbers keeper old new) l (tick_entries b.list (moment_at b.list now)) more) (sym (tick_limit b.list (moment_at b.list now))) given) h.told
       (heard_behind keeper new b more question found (ticked b.list (moment_at b.list now)) (behind_tick (numbers keeper old new) b now more given) h.stands answers) (asks (onto more b) now h.stands) heard)
 
   pub question_failed : Happens keeper old new b more Ticked now Fault (TickStep (numbers keeper old new) b now more tick.Ticked.Fault) → response ≡ notice_response notice.Fault → AskTurn keeper old new b more (ask.Query question) now response
-  question_failed h is = as_asked (turn_failed keeper old new b more question now response (questioned (the_writer b.store) b.list (moment_at b.list now) question) h.stands h.event h.step h.told is)
+  question_failed h is = as_asked (turn_failed keeper old new b more question now response (questioned (the_writer b.store) b.list (moment_at b.list now) question) h.stands h.event
+      (subst (λ (l : ℕ). Failed (numbers keeper old new) l (tick_entries b.list (moment_at b.list now)) more) (sym (tick_limit b.list (moment_at b.list now))) h.step) h.told is)
 
   pub question_refused : (size count : ℕ) → Happens keeper old new b more Ticked now Full (TickStep (numbers keeper old new) b now more (tick.Ticked.Full size count)) → response ≡ notice_response notice.Full → AskTurn keeper old new b more (ask.Query question) now response
-  question_refused size count h is = as_asked (turn_full keeper old new b more question now response (questioned (the_writer b.store) b.list (moment_at b.list now) question) size count h.stands h.event h.step h.told is)
+  question_refused size count h is = as_asked (turn_full keeper old new b more question now response (questioned (the_writer b.store) b.list (moment_at b.list now) question) size count h.stands h.event
+      (subst (λ (l : ℕ). Refused (numbers keeper old new) l (tick_entries b.list (moment_at b.list now)) more size count) (sym (tick_limit b.list (moment_at b.list now))) h.step) h.told is)

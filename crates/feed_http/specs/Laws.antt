@@ -4,7 +4,7 @@ use Rattle.news_types.specs.declared.entry.Entry.{Entry}
 use Rattle.news_types.specs.History.{History}
 use Rattle.news_types.specs.Frames.{Writer}
 use Rattle.news_room.specs.Beside.{Beside}
-use Rattle.news_room.specs.Stands.{LIMIT}
+use Rattle.news_room.specs.Stands.{limit_for}
 use Rattle.news_room.specs.Steps.{Whole, Given, Refused, Failed}
 use Rattle.http_wire.specs.declared.request.HttpRequest.{HttpRequest}
 use Rattle.desk_routes.specs.declared.response.Response.{Response}
@@ -24,19 +24,19 @@ pub record IsPast (n : Beside) (o : HttpOutcome) (more : List Entry) : Type 0 wh
   pub none : more ≡ []
   pub size : ℕ
   pub count : ℕ
-  pub refused : Refused n LIMIT o.adds more size count
+  pub refused : Refused n (limit_for o.adds) o.adds more size count
 
 -- nothing was kept, and the keeper failed at its entry
 pub record IsLost (n : Beside) (o : HttpOutcome) (more : List Entry) : Type 0 where
   pub none : more ≡ []
-  pub failed : Failed n LIMIT o.adds more
+  pub failed : Failed n (limit_for o.adds) o.adds more
 
 -- what came of an outcome, by the status alone
 pub record IsToldBy (n : Beside) (o : HttpOutcome) (more : List Entry) (response : Response) : Type 0 where
-  pub given : IsTrue (is_given response.status) → (response ≡ o.response) × Given n LIMIT o.adds more
+  pub given : IsTrue (is_given response.status) → (response ≡ o.response) × Given n (limit_for o.adds) o.adds more
   pub full : response.status ≡ 508 → IsPast n o more
   pub failed : response.status ≡ 503 → IsLost n o more
-  pub starved : response.status ≡ 507 → Whole n [] more ⊎ Given n LIMIT o.adds more
+  pub starved : response.status ≡ 507 → Whole n [] more ⊎ Given n (limit_for o.adds) o.adds more
   pub each : (IsTrue (is_given response.status) ⊎ (response.status ≡ 508)) ⊎ ((response.status ≡ 503) ⊎ (response.status ≡ 507))
 
 abbrev pub StatusesTell : Type 0

@@ -8,7 +8,7 @@ use Rattle.news_types.specs.Calls.{Call, Requested, Ingested, Receipted, Ticked,
 use Rattle.news_io.specs.Keeper.{KeeperMeaning}
 use Rattle.feed_frames.specs.Writer.{the_writer}
 use Rattle.news_room.specs.Beside.{Beside}
-use Rattle.news_room.specs.Stands.{Stands, LIMIT, numbers}
+use Rattle.news_room.specs.Stands.{Stands, limit_for, numbers}
 use Rattle.news_room.specs.Steps.{Whole, Given, Refused, Failed, ToldStep}
 use Rattle.news_room.specs.Events.{IsEvent}
 use Rattle.news_room.specs.declared.room.Room.{Room}
@@ -37,10 +37,10 @@ IsTold answer response = IsToldAs (response_to answer) response
 -- All entries of the outcome are kept, and its response is given; or its next entry would pass the limit; or the keeper failed at it; or
 -- there was no memory, and none or all of them are kept.
 pub data Comes (n : Beside) (o : HttpOutcome) (more : List Entry) (response : Response) : Type 0 where
-  whole : response ≡ o.response → Given n LIMIT o.adds more → Comes n o more response
-  full : (size count : ℕ) → response ≡ notice_response notice.Full → Refused n LIMIT o.adds more size count → Comes n o more response
-  failed : response ≡ notice_response notice.Fault → Failed n LIMIT o.adds more → Comes n o more response
-  starved : response ≡ notice_response notice.NoMemory → Whole n [] more ⊎ Given n LIMIT o.adds more → Comes n o more response
+  whole : response ≡ o.response → Given n (limit_for o.adds) o.adds more → Comes n o more response
+  full : (size count : ℕ) → response ≡ notice_response notice.Full → Refused n (limit_for o.adds) o.adds more size count → Comes n o more response
+  failed : response ≡ notice_response notice.Fault → Failed n (limit_for o.adds) o.adds more → Comes n o more response
+  starved : response ≡ notice_response notice.NoMemory → Whole n [] more ⊎ Given n (limit_for o.adds) o.adds more → Comes n o more response
 
 -- the response that tells that the keeper failed
 abbrev pub tells_failure : Response → Bool

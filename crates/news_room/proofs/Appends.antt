@@ -18,13 +18,14 @@ use Rattle.entry_codec.specs.Formed.{IsEntry}
 use Rattle.newsroom.specs.Stands.{StandsFor, store_of}
 use Rattle.news_types.specs.Doubt.{payloads}
 use Rattle.news_room.specs.Log.{IsStored, Opens}
-use Rattle.news_room.specs.Stands.{Stands, Tells, LIMIT, LAST, numbers}
+use Rattle.news_room.specs.Stands.{Stands, Tells, LAST, limit_of, numbers}
 use Rattle.news_room.specs.Steps.{ToldStep, PutStep, KeepStep, After, is_append_fault, is_fault}
 use Rattle.news_room.specs.declared.answers.Handled.{Handled}
 use Rattle.news_room.specs.declared.room.Room.{Room}
 use Rattle.news_room.specs.Appends.{IsRecord, Appended, AppendStep, SmallStep}
 use Rattle.news_room.proofs.Crashes.{append_leaves}
 use Rattle.news_room.proofs.Steps.{none_kept, one_kept, one_failed, one_refused}
+use Rattle.news_room.proofs.Limits.{limit_few}
 use Rattle.news_room.proofs.Rooms.{stands_more, stands_same}
 
 module _ {K : Type 0} (keeper : KeeperMeaning K) where
@@ -130,18 +131,18 @@ module _ {K : Type 0} (keeper : KeeperMeaning K) where
 
   pub kept_ok : (r r' : Room K) (b : Book) (e : Entry) (bytes : Bytes) (reply : Reply) → IsRecord bytes e → IsStored (e ∷ b.list) → Stands keeper r b → store_of r'.machine ≡ store_of r.machine → StandsFor r'.machine (e ∷ b.list)
       → reply ≡ reply_to b.list e.moment e.act → keeper.used r'.keeper ≡ keeper.used r.keeper + length bytes
-      → Appended keeper r.keeper r'.keeper LIMIT bytes (Ok tt) (keeper.list r.keeper ++ payload_of bytes ∷ []) → After keeper r r' b (e ∷ []) (e ∷ []) false (KeepStep (numbers keeper r r') b e (e ∷ []) (Handled.Done reply))
+      → Appended keeper r.keeper r'.keeper (limit_of e.act) bytes (Ok tt) (keeper.list r.keeper ++ payload_of bytes ∷ []) → After keeper r r' b (e ∷ []) (e ∷ []) false (KeepStep (numbers keeper r r') b e (e ∷ []) (Handled.Done reply))
   kept_ok r r' b e bytes reply is kept stands store machine replied grown a =
-      let p = put_ok r r' b LIMIT e bytes (omega arith) is kept stands store machine grown a in
+      let p = put_ok r r' b (limit_of e.act) e bytes (limit_few e.act) is kept stands store machine grown a in
       record { stands = p.stands; did = (replied, p.did); told = p.told }
 
   pub not_kept : (r r' : Room K) (b : Book) (e : Entry) (answered : Handled) → AppendStep keeper r.keeper r'.keeper e (Err answered) → (IsEntry e → IsStored (e ∷ b.list)) → Stands keeper r b
       → store_of r'.machine ≡ store_of r.machine → StandsFor r'.machine b.list → After keeper r r' b (e ∷ []) [] (is_fault answered) (KeepStep (numbers keeper r r') b e [] answered)
   not_kept r r' b e Handled.Fault step kept stands store machine =
-      let p = put_fault r r' b LIMIT e step.0 step.1.record_is (kept step.1.record_is.entry) stands store machine step.1.same step.1.did in
+      let p = put_fault r r' b (limit_of e.act) e step.0 step.1.record_is (kept step.1.record_is.entry) stands store machine step.1.same step.1.did in
       record { stands = p.stands; did = p.did; told = p.told }
   not_kept r r' b e (Handled.Full size count) step kept stands store machine =
-      let p = put_full r r' b LIMIT e step.0 size count step.1.record_is stands store machine step.1.same step.1.did in
+      let p = put_full r r' b (limit_of e.act) e step.0 size count step.1.record_is stands store machine step.1.same step.1.did in
       record { stands = p.stands; did = p.did; told = p.told }
   not_kept r r' b e Handled.Memory step kept stands store machine = after_none r r' b (e ∷ []) _ step stands store machine (none_kept (numbers keeper r r') (ap keeper.faults step) (ap keeper.used step))
   not_kept r r' b e (Handled.Done reply) step kept stands store machine = absurd step

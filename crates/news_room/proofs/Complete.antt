@@ -9,7 +9,7 @@ use Rattle.news_types.specs.Outcome.{entry_of}
 use Rattle.feed_frames.specs.Writer.{the_writer}
 use Rattle.news_room.specs.Log.{size_of, sizes}
 use Rattle.news_room.specs.Beside.{Beside}
-use Rattle.news_room.specs.Stands.{LIMIT, LAST}
+use Rattle.news_room.specs.Stands.{LIMIT, LAST, limit_for}
 use Rattle.news_room.specs.Steps.{entries, Refused}
 use Rattle.news_room.specs.Claims.{claim_entries}
 use Rattle.news_room.specs.Complete.{HasPlace, HavePlace, OutcomesComplete, ReceiptsComplete, TicksComplete, HaltsComplete, ClaimsComplete}
@@ -35,7 +35,7 @@ outcomes_complete n more o (Handled.Done reply) step free = inl (ap (λ x. Repli
 outcomes_complete n more o (Handled.Repeat reply) step free = inl (ap (λ x. Replied x) (sym step.0))
 outcomes_complete n more o (Handled.Denied denial) step free = inl (ap (λ x. Replied x) (sym step.0))
 outcomes_complete n more o Handled.Fault step free = absurd (free.calm step.rose)
-outcomes_complete n more o (Handled.Full size count) step free = absurd (has_place n LIMIT o.more more size count step free.place)
+outcomes_complete n more o (Handled.Full size count) step free = absurd (has_place n (limit_for (entries o.more)) o.more more size count step free.place)
 outcomes_complete n more o Handled.Memory step free = inr refl
 
 pub receipts_complete : ReceiptsComplete

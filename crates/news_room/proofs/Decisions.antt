@@ -9,7 +9,7 @@ use Rattle.news_types.specs.Outcome.{Outcome, kept}
 use Rattle.news_types.specs.Outcome as outcome
 use Rattle.newsroom.specs.Changes.{Prepares, Decides}
 use Rattle.newsroom.specs.declared.change.Prepared.{Prepared}
-use Rattle.news_room.specs.Stands.{LIMIT, numbers}
+use Rattle.news_room.specs.Stands.{limit_for, numbers}
 use Rattle.news_room.specs.Steps.{Answers, Given, entries, by_act, outcome_of, KeepStep, After}
 use Rattle.news_room.specs.declared.answers.Handled.{Handled}
 use Rattle.news_room.specs.declared.room.Room.{Room}
@@ -33,7 +33,7 @@ module _ {K : Type 0} (keeper : KeeperMeaning K) where
 
   -- what keeps no entry
   pub decided_as : (r r' : Room K) (b : Book) (e : Entry) (a : outcome.Answered) → r'.keeper ≡ r.keeper → outcome_of b.list e ≡ record { answer = a; more = None }
-      → ((outcome_of b.list e).answer ≡ a) × Given (numbers keeper r r') LIMIT (entries (outcome_of b.list e).more) []
+      → ((outcome_of b.list e).answer ≡ a) × Given (numbers keeper r r') (limit_for (entries (outcome_of b.list e).more)) (entries (outcome_of b.list e).more) []
   decided_as r r' b e a same is = (
     ap (λ (o : Outcome outcome.Answered). o.answer) is,
     none_given (numbers keeper r r') (outcome_of b.list e) (ap (λ (o : Outcome outcome.Answered). o.more) is) (ap keeper.faults same) (ap keeper.used same),

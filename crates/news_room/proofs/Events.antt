@@ -21,7 +21,7 @@ use Rattle.news_types.specs.Server.{Server, put}
 use Rattle.news_io.specs.Keeper.{KeeperMeaning}
 use Rattle.entry_codec.specs.Spelling.{entry_bytes}
 use Rattle.news_room.specs.Beside.{Beside}
-use Rattle.news_room.specs.Stands.{LIMIT, LAST, numbers}
+use Rattle.news_room.specs.Stands.{LIMIT, LAST, limit_for, numbers}
 use Rattle.news_room.specs.Said.{said, said_kept, said_tick, said_told, is_failure}
 use Rattle.news_room.specs.Steps.{Whole, Given, Refused, Failed, entries, Answers, Receives, RequestStep, IngestStep, ReceiptStep, TickStep, HaltStep, tick_entries, still, DoubtStep, ToldStep, After, is_fault, is_kept_fault, is_tick_fault}
 use Rattle.news_room.specs.Events.{Serves, IsEvent, Happens}
@@ -122,13 +122,13 @@ fared_failed n limit o more was f = record { fate = IsFailed; fares = f; fails_i
 fared_starved : (n : Beside) (limit : ℕ) (o : Option Entry) (more : List Entry) (was : Answer) → Whole n [] more → Fared n limit o more was Memory
 fared_starved n limit o more was f = record { fate = IsStarved; fares = f; fails_is = refl; given_is = given_starved o was }
 
-outcome_fared : (n : Beside) (more : List Entry) (o : Outcome outcome.Answered) (answered : Handled) → Answers n more o answered → Fared n LIMIT o.more more (Replied o.answer) (said answered)
-outcome_fared n more o (Handled.Done reply) step = fared_kept n LIMIT o.more more _ _ step.1 refl (ap (λ x. Replied x) step.0)
-outcome_fared n more o (Handled.Repeat reply) step = fared_kept n LIMIT o.more more _ _ step.1 refl (ap (λ x. Replied x) step.0)
-outcome_fared n more o (Handled.Denied denial) step = fared_kept n LIMIT o.more more _ _ step.1 refl (ap (λ x. Replied x) step.0)
-outcome_fared n more o Handled.Fault step = fared_failed n LIMIT o.more more _ step
-outcome_fared n more o (Handled.Full size count) step = fared_full n LIMIT o.more more _ size count step
-outcome_fared n more o Handled.Memory step = fared_starved n LIMIT o.more more _ step
+outcome_fared : (n : Beside) (more : List Entry) (o : Outcome outcome.Answered) (answered : Handled) → Answers n more o answered → Fared n (limit_for (entries o.more)) o.more more (Replied o.answer) (said answered)
+outcome_fared n more o (Handled.Done reply) step = fared_kept n (limit_for (entries o.more)) o.more more _ _ step.1 refl (ap (λ x. Replied x) step.0)
+outcome_fared n more o (Handled.Repeat reply) step = fared_kept n (limit_for (entries o.more)) o.more more _ _ step.1 refl (ap (λ x. Replied x) step.0)
+outcome_fared n more o (Handled.Denied denial) step = fared_kept n (limit_for (entries o.more)) o.more more _ _ step.1 refl (ap (λ x. Replied x) step.0)
+outcome_fared n more o Handled.Fault step = fared_failed n (limit_for (entries o.more)) o.more more _ step
+outcome_fared n more o (Handled.Full size count) step = fared_full n (limit_for (entries o.more)) o.more more _ size count step
+outcome_fared n more o Handled.Memory step = fared_starved n (limit_for (entries o.more)) o.more more _ step
 
 receipt_fared : (n : Beside) (more : List Entry) (o : Outcome outcome.Answered) (answered : kept.Kept) → Receives n more o answered → Fared n LIMIT o.more more (Replied o.answer) (said_kept answered)
 receipt_fared n more o (kept.Kept.Done reply) step = fared_kept n LIMIT o.more more _ _ step.1 refl (ap (λ x. Replied x) step.0)
@@ -186,7 +186,7 @@ module _ {K : Type 0} (keeper : KeeperMeaning K) where
       → Happens keeper old new b more (Requested caller number command) now (said answered) (RequestStep (numbers keeper old new) b now caller number command more answered)
   requested old new b now m caller number command more answered at a =
       let t = subst (λ (x : ℕ). After keeper old new b (entries (request_at b.list caller number command x).more) more (is_fault answered) (Answers (numbers keeper old new) more (request_at b.list caller number command x) answered)) at a in
-      happens old new b more (Requested caller number command) now LIMIT (Replied (request b.list caller number command now).answer) (said answered) _ (λ write. refl)
+      happens old new b more (Requested caller number command) now (limit_for (entries (request b.list caller number command now).more)) (Replied (request b.list caller number command now).answer) (said answered) _ (λ write. refl)
       (outcome_fared (numbers keeper old new) more (request b.list caller number command now) answered t.did) t
 
   -- and an ingest
@@ -195,7 +195,7 @@ module _ {K : Type 0} (keeper : KeeperMeaning K) where
       → Happens keeper old new b more (Ingested provider come) now (said answered) (IngestStep (numbers keeper old new) b now provider come more answered)
   ingested old new b now m provider come more answered at a =
       let t = subst (λ (x : ℕ). After keeper old new b (entries (ingest_at b.list provider come x).more) more (is_fault answered) (Answers (numbers keeper old new) more (ingest_at b.list provider come x) answered)) at a in
-      happens old new b more (Ingested provider come) now LIMIT (Replied (ingest b.list provider come now).answer) (said answered) _ (λ write. refl)
+      happens old new b more (Ingested provider come) now (limit_for (entries (ingest b.list provider come now).more)) (Replied (ingest b.list provider come now).answer) (said answered) _ (λ write. refl)
       (outcome_fared (numbers keeper old new) more (ingest b.list provider come now) answered t.did) t
 
   pub received : (old new : Room K) (b : Book) (now : ℕ) (s : Bytes) (count : ℕ) (more : List Entry) (answered : kept.Kept)

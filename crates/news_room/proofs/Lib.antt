@@ -8,6 +8,7 @@ pub mod Decisions
 pub mod Events
 pub mod Going
 pub mod Legal
+pub mod Limits
 pub mod Lists
 pub mod Openings
 pub mod Records

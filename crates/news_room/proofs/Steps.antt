@@ -9,7 +9,7 @@ use Rattle.news_io.specs.Faults.{Rose}
 use Rattle.entry_codec.specs.Spelling.{entry_bytes}
 use Rattle.news_room.specs.Log.{size_of, sizes}
 use Rattle.news_room.specs.Beside.{Beside, beside}
-use Rattle.news_room.specs.Stands.{LIMIT}
+use Rattle.news_room.specs.Stands.{limit_for}
 use Rattle.news_room.specs.Steps.{Whole, Given, Within, Refused, Failed, Answers, KeepStep, entries}
 use Rattle.news_room.specs.declared.answers.Handled.{Handled}
 
@@ -38,9 +38,9 @@ one_refused n limit e count told_size told_length size calm same past size_is le
 -- a request that is not denied is kept, and so answered as the list answers it
 pub kept_answers : (n : Beside) (b : Book) (m : ℕ) (act : Act) (more : List Entry) (o : Outcome outcome.Answered) (answered : Handled) → o ≡ kept b.list m act → KeepStep n b (entry_of m act) more answered → Answers n more o answered
 kept_answers n b m act more o (Handled.Done reply) is step =
-    (ap (λ (x : Outcome outcome.Answered). x.answer) is ∙ ap (λ r. Done r) (sym step.0), subst (λ (x : Outcome outcome.Answered). Given n LIMIT (entries x.more) more) (sym is) step.1)
-kept_answers n b m act more o Handled.Fault is step = subst (λ (x : Outcome outcome.Answered). Failed n LIMIT (entries x.more) more) (sym is) step
-kept_answers n b m act more o (Handled.Full size count) is step = subst (λ (x : Outcome outcome.Answered). Refused n LIMIT (entries x.more) more size count) (sym is) step
+    (ap (λ (x : Outcome outcome.Answered). x.answer) is ∙ ap (λ r. Done r) (sym step.0), subst (λ (x : Outcome outcome.Answered). Given n (limit_for (entries x.more)) (entries x.more) more) (sym is) step.1)
+kept_answers n b m act more o Handled.Fault is step = subst (λ (x : Outcome outcome.Answered). Failed n (limit_for (entries x.more)) (entries x.more) more) (sym is) step
+kept_answers n b m act more o (Handled.Full size count) is step = subst (λ (x : Outcome outcome.Answered). Refused n (limit_for (entries x.more)) (entries x.more) more size count) (sym is) step
 kept_answers n b m act more o Handled.Memory is step = step
 kept_answers n b m act more o (Handled.Repeat reply) is step = absurd step
 kept_answers n b m act more o (Handled.Denied denial) is step = absurd step
@@ -49,8 +49,8 @@ kept_answers n b m act more o (Handled.Denied denial) is step = absurd step
 pub nothing_given : (n : Beside) (limit : ℕ) (should : List Entry) → should ≡ [] → n.later_faults ≡ n.faults → n.later_used ≡ n.used → Given n limit should []
 nothing_given n limit should none calm same = record { whole = record { is = sym none; calm = calm; grown = omega (arith, same) }; within = tt }
 
-pub none_given : (n : Beside) (o : Outcome outcome.Answered) → o.more ≡ None → n.later_faults ≡ n.faults → n.later_used ≡ n.used → Given n LIMIT (entries o.more) []
-none_given n o none calm same = nothing_given n LIMIT (entries o.more) (ap (λ (x : Option Entry). entries x) none) calm same
+pub none_given : (n : Beside) (o : Outcome outcome.Answered) → o.more ≡ None → n.later_faults ≡ n.faults → n.later_used ≡ n.used → Given n (limit_for (entries o.more)) (entries o.more) []
+none_given n o none calm same = nothing_given n (limit_for (entries o.more)) (entries o.more) (ap (λ (x : Option Entry). entries x) none) calm same
 
 -- ---- one call behind another
 

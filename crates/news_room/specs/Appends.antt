@@ -9,7 +9,7 @@ use Rattle.news_io.specs.declared.keeper.AppendFault.TheVariants.{Fault, Full}
 use Rattle.entry_codec.specs.Spelling.{entry_bytes}
 use Rattle.entry_codec.specs.Formed.{IsEntry}
 use Rattle.news_room.specs.Log.{size_of}
-use Rattle.news_room.specs.Stands.{LIMIT}
+use Rattle.news_room.specs.Stands.{limit_of}
 use Rattle.news_room.specs.declared.answers.Handled.{Handled}
 
 -- what a record of an entry is to a keeper
@@ -42,9 +42,9 @@ module _ {K : Type 0} (keeper : KeeperMeaning K) where
 
   -- an entry's record was kept, or why it was not
   abbrev pub AppendStep : K → K → Entry → Result (Unit {0}) Handled → Type 0
-  AppendStep k k' e (Ok u) = (bytes : Bytes) × Kept k k' LIMIT e bytes
-  AppendStep k k' e (Err Handled.Fault) = (bytes : Bytes) × NotKept k k' LIMIT e bytes Fault
-  AppendStep k k' e (Err (Handled.Full size count)) = (bytes : Bytes) × NotKept k k' LIMIT e bytes (Full size count)
+  AppendStep k k' e (Ok u) = (bytes : Bytes) × Kept k k' (limit_of e.act) e bytes
+  AppendStep k k' e (Err Handled.Fault) = (bytes : Bytes) × NotKept k k' (limit_of e.act) e bytes Fault
+  AppendStep k k' e (Err (Handled.Full size count)) = (bytes : Bytes) × NotKept k k' (limit_of e.act) e bytes (Full size count)
   AppendStep k k' e (Err Handled.Memory) = k' ≡ k
   AppendStep k k' e (Err _) = ⊥
 

@@ -14,9 +14,9 @@ use Rattle.feed_frames.specs.Writer.{the_writer}
 use Rattle.news_io.specs.Faults.{Rose}
 use Rattle.news_room.specs.Log.{size_of, sizes}
 use Rattle.news_room.specs.Beside.{Beside}
-use Rattle.news_room.specs.Stands.{LIMIT, LAST}
+use Rattle.news_room.specs.Stands.{LIMIT, LAST, limit_for}
 use Rattle.news_room.specs.Said.{said, said_kept}
-use Rattle.news_room.specs.Steps.{Answers, Receives, TickStep, HaltStep}
+use Rattle.news_room.specs.Steps.{Answers, Receives, TickStep, HaltStep, entries}
 use Rattle.news_room.specs.Claims.{ClaimStep, IsSaid, claim_entries}
 use Rattle.news_room.specs.declared.answers.Handled.{Handled}
 use Rattle.news_room.specs.declared.answers.Kept.{Kept}
@@ -35,7 +35,7 @@ pub record IsFree (n : Beside) (limit : ℕ) (next : Option Entry) : Type 0 wher
 
 -- a request and an ingest are answered as the list answers, or there was no memory
 abbrev pub OutcomesComplete : Type 0
-OutcomesComplete = (n : Beside) (more : List Entry) (o : Outcome outcome.Answered) (answered : Handled) → Answers n more o answered → IsFree n LIMIT o.more → (said answered ≡ Replied o.answer) ⊎ (answered ≡ Handled.Memory)
+OutcomesComplete = (n : Beside) (more : List Entry) (o : Outcome outcome.Answered) (answered : Handled) → Answers n more o answered → IsFree n (limit_for (entries o.more)) o.more → (said answered ≡ Replied o.answer) ⊎ (answered ≡ Handled.Memory)
 
 -- a receipt is answered as the list answers
 abbrev pub ReceiptsComplete : Type 0

@@ -1,8 +1,10 @@
 -- What a room stands for.
-use Rattle.std.specs.Prelude.{◌≡◌, ℕ, ◌+◌, ◌≤◌, min, true, ◌∷◌, length}
+use Rattle.std.specs.Prelude.{◌≡◌, ℕ, ◌+◌, ◌≤◌, min, true, List, [], ◌∷◌, length, if◌then◌else◌}
 use Rattle.news_types.specs.declared.entry.Entry.{Entry}
 use Rattle.news_types.specs.Names.{Bytes}
-use Rattle.news_types.specs.History.{History}
+use Rattle.news_types.specs.History.{History, is_stop_command}
+use Rattle.news_types.specs.declared.entry.Act.{Act}
+use Rattle.news_types.specs.declared.entry.Act.TheVariants.{Halt, Request}
 use Rattle.news_types.specs.Books.{Book}
 use Rattle.entry_codec.specs.Spelling.{entry_bytes}
 use Rattle.entry_codec.specs.Formed.{IsEntry}
@@ -19,6 +21,21 @@ LIMIT = 1073737728
 
 abbrev pub LAST : ℕ
 LAST = 1073741824
+
+-- those that a stop may use: what is left above is for the record of a halt
+abbrev pub STOP_LIMIT : ℕ
+STOP_LIMIT = 1073741810
+
+-- those that an act may use with its entry
+abbrev pub limit_of : Act → ℕ
+limit_of Halt = LAST
+limit_of (Request caller number command) = if is_stop_command command then STOP_LIMIT else LIMIT
+limit_of act = LIMIT
+
+-- those that the entry that follows may use, if one does
+abbrev pub limit_for : List Entry → ℕ
+limit_for [] = LIMIT
+limit_for (e ∷ es) = limit_of e.act
 
 -- a payload that a crash may leave behind the list is that of an entry which may follow it
 abbrev pub MayFollow : History → Bytes → Type 0

@@ -20,7 +20,7 @@ use Rattle.entry_codec.specs.Formed.{IsEntry}
 use Rattle.news_room.specs.Log.{size_of, sizes, Opens}
 use Rattle.news_room.specs.Beside.{Beside}
 use Rattle.news_room.specs.Said.{said, said_kept, said_tick, is_failure}
-use Rattle.news_room.specs.Stands.{Stands, LIMIT, LAST, numbers, in_doubt}
+use Rattle.news_room.specs.Stands.{Stands, LIMIT, LAST, limit_of, limit_for, numbers, in_doubt}
 use Rattle.news_io.specs.declared.keeper.AppendFault.{AppendFault}
 use Rattle.news_room.specs.declared.answers.Handled.{Handled}
 use Rattle.news_room.specs.declared.answers.Kept.{Kept}
@@ -89,9 +89,9 @@ module _ (n : Beside) (limit : ℕ) (e : Entry) (more : List Entry) where
 
 -- the keeping of an entry that may follow, and was prepared
 abbrev pub KeepStep : Beside → Book → Entry → List Entry → Handled → Type 0
-KeepStep n b e more (Handled.Done reply) = (reply ≡ reply_to b.list e.moment e.act) × Given n LIMIT (e ∷ []) more
-KeepStep n b e more Handled.Fault = Failed n LIMIT (e ∷ []) more
-KeepStep n b e more (Handled.Full size count) = Refused n LIMIT (e ∷ []) more size count
+KeepStep n b e more (Handled.Done reply) = (reply ≡ reply_to b.list e.moment e.act) × Given n (limit_of e.act) (e ∷ []) more
+KeepStep n b e more Handled.Fault = Failed n (limit_of e.act) (e ∷ []) more
+KeepStep n b e more (Handled.Full size count) = Refused n (limit_of e.act) (e ∷ []) more size count
 KeepStep n b e more Handled.Memory = Whole n [] more
 KeepStep n b e more _ = ⊥
 
@@ -100,11 +100,11 @@ KeepStep n b e more _ = ⊥
 -- an outcome, by what was answered
 module _ (n : Beside) (more : List Entry) (o : Outcome outcome.Answered) where
   abbrev pub Answers : Handled → Type 0
-  Answers (Handled.Done reply) = (o.answer ≡ Done reply) × Given n LIMIT (entries o.more) more
-  Answers (Handled.Repeat reply) = (o.answer ≡ Repeat reply) × Given n LIMIT (entries o.more) more
-  Answers (Handled.Denied denial) = (o.answer ≡ Denied denial) × Given n LIMIT (entries o.more) more
-  Answers Handled.Fault = Failed n LIMIT (entries o.more) more
-  Answers (Handled.Full size count) = Refused n LIMIT (entries o.more) more size count
+  Answers (Handled.Done reply) = (o.answer ≡ Done reply) × Given n (limit_for (entries o.more)) (entries o.more) more
+  Answers (Handled.Repeat reply) = (o.answer ≡ Repeat reply) × Given n (limit_for (entries o.more)) (entries o.more) more
+  Answers (Handled.Denied denial) = (o.answer ≡ Denied denial) × Given n (limit_for (entries o.more)) (entries o.more) more
+  Answers Handled.Fault = Failed n (limit_for (entries o.more)) (entries o.more) more
+  Answers (Handled.Full size count) = Refused n (limit_for (entries o.more)) (entries o.more) more size count
   Answers Handled.Memory = Whole n [] more
 
 -- a request of a caller at a reading of the clock

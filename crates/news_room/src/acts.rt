@@ -11,13 +11,10 @@ ghost use Rattle.news_types.specs.Delivery.{acked};
 ghost use Rattle.news_types.specs.Outcome.{entry_of, kept};
 
 use crate::answers::{Kept, Ticked};
-use crate::room::{LIMIT, Room};
+use crate::room::{LAST, LIMIT, Room};
 use entry_codec::encode_small;
 use news_io::{AppendFault, Keeper};
 use news_types::{Act, Entry, Moment, Name, Reply};
-
-/// How many bytes a log may have.
-const LAST: u64 = 1073741824;
 
 impl<K: Keeper> Room<K> {
     ghost use Rattle.entry_codec.specs.Fits.{Fits};

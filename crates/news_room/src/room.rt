@@ -8,6 +8,7 @@ ghost use Rattle.news_types.specs.Calls.{Asked, Ingested, Requested};
 ghost use Rattle.news_types.specs.Answers.{query_answer};
 ghost use Rattle.news_types.specs.Frames.{frame_bytes_at};
 ghost use Rattle.feed_frames.specs.Writer.{the_writer};
+ghost use Rattle.news_room.specs.Stands.{limit_of};
 
 use crate::answers::Handled;
 use entry_codec::encode;
@@ -16,8 +17,14 @@ use news_types::{Act, Answer, Command, Entry, Incoming, Memory, Moment, Name, Qu
 use newsroom::{Change, Newsroom, Prepared};
 use std::alloc::Global;
 
-/// How many bytes of the log requests may use: what is left above is for the last halt.
+/// How many bytes of the log an entry may use that is no stop and no halt.
 pub(crate) const LIMIT: u64 = 1073737728;
+
+/// How many bytes of it a stop may use: what is left above is for the record of a halt.
+const STOP_LIMIT: u64 = 1073741810;
+
+/// How many bytes it may have.
+pub(crate) const LAST: u64 = 1073741824;
 
 /// The last moment that there is, in seconds: the end of the year 9999.
 const LAST_MOMENT: Moment = 253402300799;
@@ -87,7 +94,7 @@ impl<K: Keeper> Room<K> {
         let Ok(bytes) = encode(self.alloc, entry) else {
             return Err(Handled::Memory);
         };
-        match self.keeper.append(bytes.as_slice(), LIMIT) {
+        match self.keeper.append(bytes.as_slice(), limit_of(&entry.act)) {
             Ok(()) => Ok(()),
             Err(AppendFault::Fault) => Err(Handled::Fault),
             Err(AppendFault::Full { size, length }) => Err(Handled::Full { size, length }),
@@ -130,7 +137,8 @@ impl<K: Keeper> Room<K> {
         }
     }
 
-    /// Takes a request at a reading of the clock, in seconds.
+    /// Takes a request at a reading of the clock, in seconds. A stop may use more of the log than other requests: all but the
+    /// record of a halt, so that a full server can still be stopped.
     ///
     /// What it is answered, and whether its entry is kept, are those of the list; an entry counts only once the keeper
     /// has taken it. A failure of the keeper and want of memory leave the list as it was.
@@ -183,6 +191,18 @@ impl<K: Keeper> Room<K> {
         ensures event { (b : Book) (now : ℕ) → Stands K.keeper self.now b → IsEvent K.keeper self.now self.now b [] (Asked query.now) now (said_told result) }
     {
         self.machine.ask(query)
+    }
+}
+
+/// How many bytes of the log may be used with the entry of this act.
+fn limit_of(act: &Act) -> u64
+    ensures limit { result ≡ limit_of act.now }
+    ensures few { result ≤ 1073741824 }
+{
+    match act {
+        Act::Halt => LAST,
+        Act::Request { command, .. } if matches!(command, Command::Stop) => STOP_LIMIT,
+        _ => LIMIT,
     }
 }
 

@@ -1,6 +1,6 @@
 -- What a call on a room is to a run over members.
 use Rattle.std.proofs.Common.{◌≡◌, ◌⊎◌, inl, inr, ⊎_elim, ℕ, ◌+◌, ◌<◌, ◌≤◌, Bool, true, false, List, [], ◌∷◌, ◌++◌, length, length-append, append-nil, Option, Some, None, Ok, Err, refl, sym, ap, ◌∙◌, subst, arith}
-use Rattle.std.specs.Prelude.{Result, Vec}
+use Rattle.std.specs.Prelude.{nat_lt, Result, Vec}
 use Rattle.std.specs.declared.alloc.Global.{Global}
 use Rattle.std.proofs.lemmas.Bool.Decides.{nat_tests}
 use mathlib.Core.Bool.{false≢true}
@@ -23,7 +23,7 @@ use Rattle.desk_answers.specs.Answers.{bad_bytes}
 use Rattle.entry_codec.specs.Spelling.{entry_bytes}
 use Rattle.news_room.specs.Log.{sizes, size_of, Opens}
 use Rattle.news_room.specs.Beside.{Beside}
-use Rattle.news_room.specs.Stands.{Stands, LIMIT, numbers, in_doubt}
+use Rattle.news_room.specs.Stands.{Stands, LIMIT, limit_of, limit_for, numbers, in_doubt}
 use Rattle.news_room.specs.Steps.{Whole, Given, Failed, Refused, Within, Answers, Receives, entries, ToldStep, still, is_fault, is_kept_fault, DoubtsKept, DoubtStep, CrashLeaves}
 use Rattle.news_room.specs.declared.answers.Handled.{Handled}
 use Rattle.news_room.specs.declared.answers.Kept.{Kept as ReceiptAnswer}
@@ -50,16 +50,21 @@ sizes_more : (o : Option Entry) (h : History) → sizes (entries o ++ h) ≡ siz
 sizes_more None h = omega arith
 sizes_more (Some e) h = omega arith
 
-fits_within : (n : Beside) (before : ℕ) (h : History) (next : Option Entry) (more : List Entry) → more ≡ entries next → Within n LIMIT more → n.used ≡ before + sizes h → n.later_used ≡ n.used + sizes more → passes before h (entries next) ≡ false
+lt_false : (limit count : ℕ) → count ≤ limit → nat_lt limit count ≡ false
+lt_false limit count low = grind (arith, nat_tests, low)
+
+lt_true : (limit count : ℕ) → limit < count → nat_lt limit count ≡ true
+lt_true limit count high = grind (arith, nat_tests, high)
+
+fits_within : (n : Beside) (before : ℕ) (h : History) (next : Option Entry) (more : List Entry) → more ≡ entries next → Within n (limit_for (entries next)) more → n.used ≡ before + sizes h → n.later_used ≡ n.used + sizes more → passes before h (entries next) ≡ false
 fits_within n before h None more is within uses grown = refl
 fits_within n before h (Some e) more is within uses grown =
-    let le : n.later_used ≤ LIMIT = subst (λ (l : List Entry). Within n LIMIT l) is within in
+    let le : n.later_used ≤ limit_of e.act = subst (λ (l : List Entry). Within n (limit_of e.act) l) is within in
     let sum : n.later_used ≡ n.used + sizes (e ∷ []) = subst (λ (l : List Entry). n.later_used ≡ n.used + sizes l) is grown in
-    let low : before + sizes (e ∷ h) ≤ LIMIT = omega (arith, uses, sum, le) in
-    grind (arith, nat_tests, low)
+    lt_false (limit_of e.act) (before + sizes (e ∷ h)) (omega (arith, uses, sum, le))
 
-passes_past : (before used : ℕ) (h : History) (next : Entry) (rest : List Entry) → used ≡ before + sizes h → LIMIT < used + size_of next → passes before h (next ∷ rest) ≡ true
-passes_past before used h next rest is past = let high : LIMIT < before + sizes (next ∷ h) = omega (arith, is, past) in grind (arith, nat_tests, high)
+passes_past : (before used : ℕ) (h : History) (next : Entry) (rest : List Entry) → used ≡ before + sizes h → limit_of next.act < used + size_of next → passes before h (next ∷ rest) ≡ true
+passes_past before used h next rest is past = lt_true (limit_of next.act) (before + sizes (next ∷ h)) (omega (arith, is, past))
 
 -- the entry that should follow, where one does
 one_next : (o : Option Entry) (more rest : List Entry) (next : Entry) → entries o ≡ more ++ next ∷ rest → entries o ≡ next ∷ []
@@ -148,7 +153,7 @@ module _ {K C X A : Type 0} (hand : A → Hand K C) (keeper : KeeperMeaning K) (
 
   -- an outcome that was kept, with this text
   pub answered_step : (now : ℕ) (bytes : Bytes) (next : Option Entry) (more : List Entry) (text : Bytes) → M h x now ≡ adding s.before h now bytes (entries next) → StandsAt keeper s (hand d) h
-      → Stands keeper (hand d').room.now (onto more (book s h)) → Given (numbers keeper (hand d).room.now (hand d').room.now) LIMIT (entries next) more
+      → Stands keeper (hand d').room.now (onto more (book s h)) → Given (numbers keeper (hand d).room.now (hand d').room.now) (limit_for (entries next)) (entries next) more
       → (s.told ≡ true → CrashLeaves keeper (hand d).room.now (hand d').room.now (book s h) more) → (s.told ≡ true → DoubtsKept (keeper.doubts (hand d).room.now.keeper) (keeper.doubts (hand d').room.now.keeper) more)
       → Ticked (now ∷ []) → text ≡ bytes → IsAnswered M L d d' h x text
   answered_step now bytes next more text means stands room given crash doubt ticked is =
@@ -165,7 +170,7 @@ module _ {K C X A : Type 0} (hand : A → Hand K C) (keeper : KeeperMeaning K) (
 
   -- an outcome that was kept, as a text or with no memory for one
   pub text_step : (now : ℕ) (bytes : Bytes) (next : Option Entry) (more : List Entry) (r : Result (Vec ℕ Global) Stopped) → M h x now ≡ adding s.before h now bytes (entries next) → StandsAt keeper s (hand d) h
-      → Stands keeper (hand d').room.now (onto more (book s h)) → Given (numbers keeper (hand d).room.now (hand d').room.now) LIMIT (entries next) more
+      → Stands keeper (hand d').room.now (onto more (book s h)) → Given (numbers keeper (hand d).room.now (hand d').room.now) (limit_for (entries next)) (entries next) more
       → (s.told ≡ true → CrashLeaves keeper (hand d).room.now (hand d').room.now (book s h) more) → (s.told ≡ true → DoubtsKept (keeper.doubts (hand d).room.now.keeper) (keeper.doubts (hand d').room.now.keeper) more)
       → Ticked (now ∷ []) → IsText bytes r → IsStep M L d d' h x r
   text_step now bytes next more (Ok text) means stands room given crash doubt ticked is = answered_step now bytes next more text.items means stands room given crash doubt ticked is
@@ -302,11 +307,11 @@ module _ {K C X A : Type 0} (hand : A → Hand K C) (keeper : KeeperMeaning K) (
   ]
 
   -- it was done, and is told, or there is no memory to tell it
-  pub given_step : (more : List Entry) (r : Result (Vec ℕ Global) Stopped) → Called more false → Given n LIMIT (entries next) more → IsText bytes r → Step r
+  pub given_step : (more : List Entry) (r : Result (Vec ℕ Global) Stopped) → Called more false → Given n (limit_for (entries next)) (entries next) more → IsText bytes r → Step r
   given_step more r did given text =
       text_step hand keeper clock s M d d' h said now bytes next more r means did.stands did.room given (λ t. (did.told t).crash) (λ t. (did.told t).doubt) did.ticked text
 
-  pub given_answered : (more : List Entry) → Called more false → Given n LIMIT (entries next) more → IsAnswered M (life keeper clock hand s) d d' h said bytes
+  pub given_answered : (more : List Entry) → Called more false → Given n (limit_for (entries next)) (entries next) more → IsAnswered M (life keeper clock hand s) d d' h said bytes
   given_answered more did given =
       answered_step hand keeper clock s M d d' h said now bytes next more bytes means did.stands did.room given (λ t. (did.told t).crash) (λ t. (did.told t).doubt) did.ticked refl
 
@@ -317,18 +322,19 @@ module _ {K C X A : Type 0} (hand : A → Hand K C) (keeper : KeeperMeaning K) (
       stop_step hand keeper clock s M d d' h said now bytes next more why means none did.stands did.room grown (λ t. (did.told t).crash) past unkept doubt did.ticked
 
   -- the keeper failed at its entry
-  pub failed_step : (more : List Entry) → Called more true → Failed n LIMIT (entries next) more → Step (Err stopped.Fault)
+  pub failed_step : (more : List Entry) → Called more true → Failed n (limit_for (entries next)) (entries next) more → Step (Err stopped.Fault)
   failed_step more did failed =
       stopped_by more true stopped.Fault did (none_before next more failed.rest failed.next failed.is) failed.grown (λ full. absurd (fault≢full full))
       (λ by_keeper. (failed.next, one_next next more failed.rest failed.next failed.is)) (tried_by more (λ t. (did.told t).doubt))
 
   -- its entry would pass the limit
-  pub refused_step : (more : List Entry) (size count : ℕ) → Called more false → Refused n LIMIT (entries next) more size count → Step (Err stopped.Full)
+  pub refused_step : (more : List Entry) (size count : ℕ) → Called more false → Refused n (limit_for (entries next)) (entries next) more size count → Step (Err stopped.Full)
   refused_step more size count did refused =
       let none : more ≡ [] = none_before next more refused.rest refused.next refused.is in
       let all : entries next ≡ refused.next ∷ refused.rest = refused.is ∙ ap (λ (l : List Entry). l ++ refused.next ∷ refused.rest) none in
       let same : keeper.used (hand d').room.now.keeper ≡ keeper.used (hand d).room.now.keeper = refused.grown ∙ ap (λ (l : List Entry). keeper.used (hand d).room.now.keeper + sizes l) none ∙ omega arith in
-      let past : LIMIT < keeper.used (hand d).room.now.keeper + size_of refused.next = omega (arith, refused.past, same) in
+      let limit : limit_for (entries next) ≡ limit_of refused.next.act = ap limit_for all in
+      let past : limit_of refused.next.act < keeper.used (hand d).room.now.keeper + size_of refused.next = omega (arith, refused.past, same, limit) in
       stopped_by more false stopped.Full did none refused.grown
       (λ full. ap (passes s.before h) all ∙ passes_past s.before (keeper.used (hand d).room.now.keeper) h refused.next refused.rest did.stands.uses past)
       (λ by_keeper. (refused.next, one_next next more refused.rest refused.next refused.is)) (calm_by more stopped.Full (λ t. (did.told t).doubt))
@@ -345,7 +351,7 @@ module _ {K C X A : Type 0} (hand : A → Hand K C) (keeper : KeeperMeaning K) (
   abbrev pub Did : List Entry → Bool → Type 0
   Did more failed = Called hand keeper clock s M d d' h now said (answered_bytes o.answer) o.more means more failed
 
-  done_step : (more : List Entry) (failed : Bool) (answer : newsroom.Answered) (r : Result (Vec ℕ Global) Stopped) → failed ≡ false → (o.answer ≡ answer) × Given (numbers keeper (hand d).room.now (hand d').room.now) LIMIT (entries o.more) more
+  done_step : (more : List Entry) (failed : Bool) (answer : newsroom.Answered) (r : Result (Vec ℕ Global) Stopped) → failed ≡ false → (o.answer ≡ answer) × Given (numbers keeper (hand d).room.now (hand d').room.now) (limit_for (entries o.more)) (entries o.more) more
       → Did more failed → IsText (answered_bytes answer) r → IsStep M (life keeper clock hand s) d d' h said r
   done_step more failed answer r calm step did text =
       given_step hand keeper clock s M d d' h now said (answered_bytes o.answer) o.more means more r (subst (λ (f : Bool). Did more f) calm did) step.1 (subst (λ (x : newsroom.Answered). IsText (answered_bytes x) r) (sym step.0) text)
@@ -367,13 +373,15 @@ module _ {K C X A : Type 0} (hand : A → Hand K C) (keeper : KeeperMeaning K) (
       (starved_call hand keeper clock s M d d' h now said (answered_bytes o.answer) o.more means more did step)
 
   -- to a receipt
-  pub received_step : (more : List Entry) (answered : ReceiptAnswer) (r : Result (Vec ℕ Global) Stopped) → Receives (numbers keeper (hand d).room.now (hand d').room.now) more o answered
+  pub received_step : (more : List Entry) (answered : ReceiptAnswer) (r : Result (Vec ℕ Global) Stopped) → limit_for (entries o.more) ≡ LIMIT → Receives (numbers keeper (hand d).room.now (hand d').room.now) more o answered
       → Did more (is_kept_fault answered) → IsReceiptText answered r → IsStep M (life keeper clock hand s) d d' h said r
-  received_step more (kept.Done reply) r step did text = done_step more false (newsroom.Done reply) r refl step did text
-  received_step more (kept.Denied denial) r step did text = done_step more false (newsroom.Denied denial) r refl step did text
-  received_step more kept.Fault r step did text =
+  received_step more (kept.Done reply) r same step did text =
+      done_step more false (newsroom.Done reply) r refl (step.0, subst (λ (l : ℕ). Given (numbers keeper (hand d).room.now (hand d').room.now) l (entries o.more) more) (sym same) step.1) did text
+  received_step more (kept.Denied denial) r same step did text =
+      done_step more false (newsroom.Denied denial) r refl (step.0, subst (λ (l : ℕ). Given (numbers keeper (hand d).room.now (hand d').room.now) l (entries o.more) more) (sym same) step.1) did text
+  received_step more kept.Fault r same step did text =
       subst (λ (x : Result (Vec ℕ Global) Stopped). IsStep M (life keeper clock hand s) d d' h said x) (sym text)
-      (failed_step hand keeper clock s M d d' h now said (answered_bytes o.answer) o.more means more did step)
-  received_step more (kept.Full size count) r step did text =
+      (failed_step hand keeper clock s M d d' h now said (answered_bytes o.answer) o.more means more did (subst (λ (l : ℕ). Failed (numbers keeper (hand d).room.now (hand d').room.now) l (entries o.more) more) (sym same) step))
+  received_step more (kept.Full size count) r same step did text =
       subst (λ (x : Result (Vec ℕ Global) Stopped). IsStep M (life keeper clock hand s) d d' h said x) (sym text)
-      (refused_step hand keeper clock s M d d' h now said (answered_bytes o.answer) o.more means more size count did step)
+      (refused_step hand keeper clock s M d d' h now said (answered_bytes o.answer) o.more means more size count did (subst (λ (l : ℕ). Refused (numbers keeper (hand d).room.now (hand d').room.now) l (entries o.more) more size count) (sym same) step))

@@ -33,6 +33,7 @@ use Rattle.news_room.specs.Stands.{Stands, LIMIT, numbers}
 use Rattle.news_room.specs.Steps.{Given, Failed, Refused, entries, tick_entries, TickStep, ToldStep, is_tick_fault}
 use Rattle.news_room.specs.declared.answers.Ticked.{Ticked as TickAnswer}
 use Rattle.news_room.specs.declared.answers.Ticked.TheVariants as tick_answer
+use Rattle.news_room.proofs.Limits.{tick_limit}
 use Rattle.room_runs.specs.Lines.{adding, bad, of_asked, of_question, has_answer, no_frames}
 use Rattle.room_runs.specs.Texts.{IsText}
 use Rattle.room_runs.specs.Desk.{Shelf, StandsAt, book, line_hand}
@@ -105,7 +106,8 @@ module _ {K C : Type 0} (keeper : KeeperMeaning K) (clock : ClockMeaning C) (s :
       → IsText (answer_bytes (query_answer no_frames (followed_by more h) q)) r → IsStep (of_asked s.before) (life keeper clock line_hand s) d d' h (asked.Query q) r
   question_step more r did given text =
       let same : followed_by more h ≡ ticked h (moment_at h now) = ap (λ (l : List Entry). followed_by l h) given.whole.is ∙ behind_tick h (moment_at h now) in
-      given_step line_hand keeper clock s (of_asked s.before) d d' h now (asked.Query q) answer_is tick can_be_told more r did given (subst (λ (l : History). IsText (answer_bytes (query_answer no_frames l q)) r) same text)
+      given_step line_hand keeper clock s (of_asked s.before) d d' h now (asked.Query q) answer_is tick can_be_told more r did
+      (subst (λ (l : ℕ). Given (numbers keeper d.room.now d'.room.now) l (entries tick) more) (sym (tick_limit h (moment_at h now))) given) (subst (λ (l : History). IsText (answer_bytes (query_answer no_frames l q)) r) same text)
 
   -- the same, by what the room answered to the tick
   pub ticked_step : (more : List Entry) (t : TickAnswer) (r : Result (Vec ℕ Global) Stopped) → ((place : ℕ) × (t ≡ tick_answer.Kept place)) ⊎ (t ≡ tick_answer.Still) → StandsAt keeper s (line_hand d) h
@@ -120,11 +122,13 @@ module _ {K C : Type 0} (keeper : KeeperMeaning K) (clock : ClockMeaning C) (s :
       given.0 text
 
   pub question_failed : (more : List Entry) → TickDid more true → Failed (numbers keeper d.room.now d'.room.now) LIMIT (entries tick) more → IsStep (of_asked s.before) (life keeper clock line_hand s) d d' h (asked.Query q) (Err stopped.Fault)
-  question_failed more did failed = failed_step line_hand keeper clock s (of_asked s.before) d d' h now (asked.Query q) answer_is tick can_be_told more did failed
+  question_failed more did failed = failed_step line_hand keeper clock s (of_asked s.before) d d' h now (asked.Query q) answer_is tick can_be_told more did
+      (subst (λ (l : ℕ). Failed (numbers keeper d.room.now d'.room.now) l (entries tick) more) (sym (tick_limit h (moment_at h now))) failed)
 
   pub question_refused : (more : List Entry) (size count : ℕ) → TickDid more false → Refused (numbers keeper d.room.now d'.room.now) LIMIT (entries tick) more size count
       → IsStep (of_asked s.before) (life keeper clock line_hand s) d d' h (asked.Query q) (Err stopped.Full)
-  question_refused more size count did refused = refused_step line_hand keeper clock s (of_asked s.before) d d' h now (asked.Query q) answer_is tick can_be_told more size count did refused
+  question_refused more size count did refused = refused_step line_hand keeper clock s (of_asked s.before) d d' h now (asked.Query q) answer_is tick can_be_told more size count did
+      (subst (λ (l : ℕ). Refused (numbers keeper d.room.now d'.room.now) l (entries tick) more size count) (sym (tick_limit h (moment_at h now))) refused)
 
 -- ---- a line, by what it is read as
 

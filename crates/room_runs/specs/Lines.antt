@@ -18,7 +18,7 @@ use Rattle.desk_lines.specs.declared.property.LineProperty.TheVariants as proper
 use Rattle.desk_lines.specs.Lines.{line}
 use Rattle.desk_answers.specs.Answers.{reply_bytes, denial_bytes, bad_bytes, answer_bytes}
 use Rattle.news_room.specs.Log.{sizes}
-use Rattle.news_room.specs.Stands.{LIMIT}
+use Rattle.news_room.specs.Stands.{limit_of}
 use Rattle.news_room.specs.Steps.{entries, tick_entries}
 
 -- ---- lines
@@ -36,10 +36,10 @@ answered_bytes (Done reply) = reply_bytes reply false
 answered_bytes (Repeat reply) = reply_bytes reply true
 answered_bytes (Denied denial) = denial_bytes denial
 
--- whether the record of what would be added passes the limit, in a log that had so many bytes before its first record
+-- whether the record of what would be added passes the limit of its act, in a log that had so many bytes before its first record
 abbrev pub passes : ℕ → History → List Entry → Bool
 passes before h [] = false
-passes before h (e ∷ es) = nat_lt LIMIT (before + sizes (e ∷ h))
+passes before h (e ∷ es) = nat_lt (limit_of e.act) (before + sizes (e ∷ h))
 
 -- a bad line adds nothing, and takes no reading
 abbrev pub bad : LineProperty → Outcome Entry

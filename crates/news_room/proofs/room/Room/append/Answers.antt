@@ -12,7 +12,7 @@ returns-in-Ok-append-clause-step g c =
       record {
         record_is = record_of c.args.entry.now c.as_slice.result.now c.in-Ok.ensures.entry (c.as_slice.ensures ∙ c.in-Ok.ensures.bytes);
         grown = t.used;
-        did = record { full = t.full; count = t.count; label = t.label; told = t.told; list_is = t.kept; doubt = t.doubts; crash = t.crash };
+        did = record { full = rw c.limit_of.ensures.limit at t.full; count = t.count; label = t.label; told = t.told; list_is = t.kept; doubt = t.doubts; crash = t.crash };
       },
     )
 
@@ -24,7 +24,7 @@ returns-in-Err-Fault-clause-step g c =
         record_is = record_of c.args.entry.now c.as_slice.result.now c.in-Ok.ensures.entry (c.as_slice.ensures ∙ c.in-Ok.ensures.bytes);
         same = t.used_err;
         did = record {
-          full = rw c.in-Err-Fault.field-0-is at t.full;
+          full = rw c.limit_of.ensures.limit at (rw c.in-Err-Fault.field-0-is at t.full);
           count = rw c.in-Err-Fault.field-0-is at t.count;
           label = t.label;
           told = t.told;
@@ -43,7 +43,7 @@ returns-clause-step g c =
         record_is = record_of c.args.entry.now c.as_slice.result.now c.in-Ok.ensures.entry (c.as_slice.ensures ∙ c.in-Ok.ensures.bytes);
         same = t.used_err;
         did = record {
-          full = rw c.in-Err-Full.field-0-is at t.full;
+          full = rw c.limit_of.ensures.limit at (rw c.in-Err-Full.field-0-is at t.full);
           count = rw c.in-Err-Full.field-0-is at t.count;
           label = t.label;
           told = t.told;
