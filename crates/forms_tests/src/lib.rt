@@ -1,4 +1,4 @@
-//! Tests of the forms in which news, entries and frames come and go: wires, items, requests over HTTP, logs, frames and receipts.
+//! Tests of the forms in which news and frames come and go: wires, items, requests over HTTP, frames and receipts.
 //!
 //! Most of their rows are lines of `desk_sessions`, `lines_table` and `plain_server`, which the gate runs. Here are those that no
 //! input of a program can show.

@@ -1,13 +1,10 @@
-mod entries;
 mod fields;
 mod frame_runs;
 mod frames;
 mod given;
 mod heads;
-mod hostile;
 mod items;
 mod receivers;
 mod reports;
-mod segments;
 mod wire_runs;
 mod wires;

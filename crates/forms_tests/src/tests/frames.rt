@@ -14,7 +14,9 @@ fn framed(alloc: Global, format: Format, subscriber: &str, told: &Told) -> Resul
     let subscriber = named(subscriber)?;
     let publication = publication(alloc, told)?;
     let store = Uuid::from_u128(STORE);
-    Ok(write_frame(alloc, store, format, &subscriber, 1, &publication)?)
+    let frame = write_frame(alloc, store, format, &subscriber, 1, &publication);
+    drop(publication);
+    Ok(frame?)
 }
 
 const WIRE: &[u8] =

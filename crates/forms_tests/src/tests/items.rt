@@ -17,7 +17,10 @@ const KILLED: &str =
 
 fn written(alloc: Global, told: &Told) -> Result<Bytes, Memory> {
     let uri = Text::copy_of(alloc, URI)?;
-    write(alloc, &publication(alloc, told)?, &uri)
+    let publication = publication(alloc, told)?;
+    let written = write(alloc, &publication, &uri);
+    drop(publication);
+    written
 }
 
 #[test]

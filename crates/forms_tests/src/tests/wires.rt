@@ -1,8 +1,8 @@
 //! Tests of `text7901`.
-ghost use Rattle.std.specs.Prelude.{◌≡◌, ◌≤◌, ◌<◌, []};
+ghost use Rattle.std.specs.Prelude.{◌≡◌, ◌≤◌, ◌<◌, [], false};
 
 use super::given::{FIRE, Told, publication};
-use news_types::{Incoming, Kind, Memory};
+use news_types::{Bytes, Incoming, Kind, Memory};
 use std::alloc::Global;
 use std::test::Fail;
 use text7901::{Found, Reader, write};
@@ -32,13 +32,23 @@ fn count_of(bytes: &[u8], wanted: u8) -> usize {
     bytes.iter().filter(|byte| **byte == wanted).count()
 }
 
+/// How many stories a wire has before it ends, and then.
+fn counts_of(reader: &mut Reader, wire: &[u8]) -> Result<(usize, usize), Memory>
+    requires begins { reader.old.at ≡ 0 }
+    requires open { reader.old.ended ≡ false }
+{
+    reader.feed(wire)?;
+    let before = count_ready(reader);
+    reader.finish()?;
+    Ok((before, before.saturating_add(count_ready(reader))))
+}
+
 /// Whether the wire has a story for each EOT before it ends, and then one for each ETX.
 fn is_told_in_time(alloc: Global, wire: &[u8]) -> Result<bool, Memory> {
     let mut reader = Reader::new(alloc)?;
-    reader.feed(wire)?;
-    let before = count_ready(&mut reader);
-    reader.finish()?;
-    let all = before.saturating_add(count_ready(&mut reader));
+    let counts = counts_of(&mut reader, wire);
+    drop(reader);
+    let (before, all) = counts?;
     Ok(before == count_of(wire, EOT) && all == count_of(wire, ETX))
 }
 
@@ -51,8 +61,15 @@ fn fronts(rt: HostRuntime) -> Result<(), Fail> {
     Ok(())
 }
 
+fn wire_of(alloc: Global, told: &Told) -> Result<Bytes, Memory> {
+    let publication = publication(alloc, told)?;
+    let wire = write(alloc, &publication);
+    drop(publication);
+    wire
+}
+
 fn is_written_as(alloc: Global, told: &Told, wire: &[u8]) -> Result<bool, Memory> {
-    Ok(write(alloc, &publication(alloc, told)?)?.as_slice() == wire)
+    Ok(wire_of(alloc, told)?.as_slice() == wire)
 }
 
 const WRITTEN: [(Told, &[u8]); 6] = [
@@ -138,7 +155,7 @@ fn many_words(rt: HostRuntime) -> Result<(), Fail> {
         body: body.as_str(),
         ..FIRE
     };
-    let wire = write(rt.alloc(), &publication(rt.alloc(), &told)?)?;
+    let wire = wire_of(rt.alloc(), &told)?;
     assert!(rt;
         wire.as_slice()
             .starts_with(b"\x01NWS0001 3 n 99999 FIRST\r\n")
@@ -209,21 +226,45 @@ fn category_of(draw: usize) -> &'static str {
     }
 }
 
-/// Whether a drawn story that is written for the wire is read again as it was.
-fn comes_back(alloc: Global, draws: &mut Draws, number: u32) -> Result<bool, Memory> {
+/// The texts of a drawn story.
+#[derive(Drop)]
+struct DrawnTexts {
+    slugline: String,
+    headline: String,
+    body: String,
+}
+
+fn drawn_texts(alloc: Global, draws: &mut Draws) -> Result<DrawnTexts, Memory> {
     let slugline = drawn(alloc, draws, 20, 8)?;
     let headline = drawn(alloc, draws, 40, 16)?;
     let body = drawn(alloc, draws, 60, 17)?;
-    let told = Told {
+    Ok(DrawnTexts {
+        slugline,
+        headline,
+        body,
+    })
+}
+
+/// A story with these texts.
+fn told_of<'a>(texts: &'a DrawnTexts, draws: &mut Draws, number: u32) -> Told<'a> {
+    let urgency = draws.below(9) as u8 + 1;
+    let category = category_of(draws.below(3));
+    Told {
         number,
-        urgency: draws.below(9) as u8 + 1,
-        category: category_of(draws.below(3)),
-        slugline: slugline.as_str(),
-        headline: headline.as_str(),
-        body: body.as_str(),
+        urgency,
+        category,
+        slugline: texts.slugline.as_str(),
+        headline: texts.headline.as_str(),
+        body: texts.body.as_str(),
         ..FIRE
-    };
-    let wire = write(alloc, &publication(alloc, &told)?)?;
+    }
+}
+
+/// Whether a drawn story that is written for the wire is read again as it was.
+fn comes_back(alloc: Global, draws: &mut Draws, number: u32) -> Result<bool, Memory> {
+    let texts = drawn_texts(alloc, draws)?;
+    let told = told_of(&texts, draws, number);
+    let wire = wire_of(alloc, &told)?;
     let identity = format!(in alloc; "NWS{number:04}@1970-01-01T00:16:40Z")?;
     match first_of(alloc, wire.as_slice())? {
         Some(Found::Story(incoming)) => Ok(is_told(&incoming, identity.as_str(), &told)),

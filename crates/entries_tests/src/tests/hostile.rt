@@ -81,7 +81,7 @@ fn outcome(alloc: Global, payload: &[u8]) -> Result<u8, Fail> {
     match decode(alloc, payload) {
         Ok(entry) => {
             drop(entry);
-            act_again(alloc, payload)?;
+            drop(act_again(alloc, payload)?);
             Ok(FINE)
         }
         Err(CodecFault::At { at }) => Ok(at.min(254) as u8),
