@@ -43,6 +43,11 @@ fn leaves_a_halt_its_place(rt: HostRuntime) {
     let alloc = rt.alloc();
     let mut room = room_beside(&rt, alloc, 1073741782);
     let told = send(&rt, alloc, &mut room, 1000, 1, STOP);
-    assert!(rt; told == Told::Full { size: 1073741782, length: 24 });
+    assert!(rt;
+        told == Told::Full {
+            size: 1073741782,
+            length: 24
+        }
+    );
     assert!(rt; room.front() == 0);
 }
