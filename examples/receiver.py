@@ -4,7 +4,8 @@
 It listens on ADDRESS, 127.0.0.1 where none is given, at PORT, and keeps the payload of each frame once, in order, as the file FOLDER/K for
 frame K of the feed. A frame counts once its file stands under its own name, synced: so a stop at any moment loses nothing that was
 receipted, and what is sent again is not kept again. It takes several connections beside each other, since each worker of a server has one
-of its own. What is no frame, or has a payload of more than BYTES, ends its connection, and standard error gets a line that says why.
+of its own. What is no frame, or has a payload of more than BYTES, ends its connection: standard error gets a line that says why, and the
+other connections, and those that come later, are taken as before. BYTES is the most that a frame may have, where no fewer are given.
 """
 import argparse
 import os
@@ -14,9 +15,8 @@ import socketserver
 import sys
 import threading
 
-# no story within newsdesk's limits has a longer payload
-LONGEST_PAYLOAD = 4_194_240
-LONGEST_HEADING, MOST_FRAMES = 80, 4_294_967_295
+# no frame has a longer payload, a longer first line or a greater number
+LONGEST_PAYLOAD, LONGEST_HEADING, MOST_FRAMES = 4_194_240, 61, 4_294_967_295
 HEADING = re.compile(rb"FRAME ([a-z0-9_-]{1,32}) ([1-9][0-9]{0,9}) (0|[1-9][0-9]{0,9})\n")
 
 
@@ -30,6 +30,10 @@ def keep(folder, k, payload):
     descriptor = os.open(folder, os.O_RDONLY)
     os.fsync(descriptor)
     os.close(descriptor)
+
+
+def say(peer, why):
+    print(f"{peer[0]}:{peer[1]}: {why}", file=sys.stderr, flush=True)
 
 
 class Connection(socketserver.StreamRequestHandler):
@@ -63,7 +67,7 @@ class Connection(socketserver.StreamRequestHandler):
 
     def complain(self, why):
         """Says what was wrong; the connection is closed then."""
-        print(f"{self.client_address[0]}:{self.client_address[1]}: {why}", file=sys.stderr, flush=True)
+        say(self.client_address, why)
 
     def reply(self, count):
         self.wfile.write(b"RECEIPT %s %d\n" % (self.server.name, count))
@@ -80,6 +84,10 @@ class Receiver(socketserver.ThreadingTCPServer):
         self.count = sum(file.isdigit() for file in os.listdir(folder))
         self.turn = threading.Lock()
 
+    def handle_error(self, request, client_address):
+        """Where a connection cannot be taken up, as where there is no thread for it: a line as any other."""
+        say(client_address, sys.exc_info()[1])
+
     def take(self, name, k, payload):
         """Keeps a frame where it is the next one of the feed. Tells how many are kept."""
         with self.turn:
@@ -89,15 +97,29 @@ class Receiver(socketserver.ThreadingTCPServer):
             return self.count
 
 
+def up_to(most):
+    def number(word):
+        if not word.isdecimal() or int(word) > most:
+            raise argparse.ArgumentTypeError(f"not a number from 0 to {most}")
+        return int(word)
+
+    return number
+
+
 def main():
     words = argparse.ArgumentParser(description="Receives the feed of NAME, and keeps its frames as files of FOLDER.")
     words.add_argument("name", metavar="NAME")
     words.add_argument("folder", metavar="FOLDER")
-    words.add_argument("port", metavar="PORT", type=int)
+    words.add_argument("port", metavar="PORT", type=up_to(65_535))
     words.add_argument("--listen", metavar="ADDRESS", default="127.0.0.1", help="the address to listen on (%(default)s)")
-    words.add_argument("--longest", metavar="BYTES", type=int, default=LONGEST_PAYLOAD, help="the longest payload that is taken (%(default)s)")
+    words.add_argument("--longest", metavar="BYTES", type=up_to(LONGEST_PAYLOAD), default=LONGEST_PAYLOAD,
+                       help="the longest payload that is taken (%(default)s)")
     given = words.parse_args()
-    with Receiver(given.name, given.folder, given.port, listen=given.listen, longest=given.longest) as receiver:
+    try:
+        receiver = Receiver(given.name, given.folder, given.port, listen=given.listen, longest=given.longest)
+    except OSError as error:
+        sys.exit(f"{given.listen}:{given.port}: {error.strerror or error}")
+    with receiver:
         receiver.serve_forever()
 
 
