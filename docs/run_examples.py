@@ -15,7 +15,7 @@ import sys
 import tempfile
 
 TOP = os.path.dirname(os.path.dirname(os.path.abspath(__file__)))
-PAGES = ("README.md", "docs/DESK.md", "docs/OPERATING.md", "docs/SERVING.md", "docs/SUBSCRIBERS.md")
+PAGES = ("README.md", "docs/DESK.md", "docs/OPERATING.md", "docs/SERVING.md", "docs/SUBSCRIBERS.md", "docs/WIRES.md")
 SESSION = "examples/first_story.session"
 PRESENT = re.compile(r"\b1[7-9]\d{8}\b|\b20[2-9]\d-\d\d-\d\dT\d\d:\d\d:\d\dZ")
 
