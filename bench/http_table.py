@@ -25,6 +25,8 @@ GATE = os.path.join(TOP, "crates/plain_server")
 STORE = uuid.UUID("6ba7b810-9dad-11d1-80b4-00c04fd430c8")
 EMPTY_LOG = 65
 LIMIT = 1073737728
+# what a stop may use: all but the 14 bytes of a halt's record
+STOP_LIMIT = 1073741824 - 14
 JSON, OCTETS = "application/json", "application/octet-stream"
 
 
@@ -419,7 +421,7 @@ def record(fields):
 # kind, urgency, slugline, headline, byline, language, category, body, html flag
 EMPTY_STORY = 1 + 1 + 6 * 4 + 1
 DESK, MEMBER, CREATE = record(1 + 4), record(1 + 4 + 1 + 5 + 1), record(1 + 4 + EMPTY_STORY)
-LOCK, PUBLISH = record(4 + 2), record(4 + 2 + 1 + 1 + 8 + 2)
+LOCK, PUBLISH, STOP = record(4 + 2), record(4 + 2 + 1 + 1 + 8 + 2), record(0)
 SCHEDULED = DESK + MEMBER + CREATE + LOCK + PUBLISH
 ADVANCE = 1 + 4 + 8 + 1
 
@@ -466,10 +468,13 @@ FULL = [
         "Closed",
         *WAITING,
         get("/queue", "admin", queue()),
-        post("admin", 6, "stop", bare(508)),
+        post("admin", 6, "add_desk", bare(508), desk="sport"),
         get("/items/1", "admin", item("published", {}, 1, desk="city", stage="working")),
         used=LIMIT - SCHEDULED - ADVANCE,
     ),
+    Connection("a stop where nothing else has room", "Stopped { place: 1 }", city(wanted=bare(508)), post("admin", 1, "stop", done(1)), used=LIMIT),
+    Connection("the last stop that has room", "Stopped { place: 1 }", post("admin", 1, "stop", done(1)), used=STOP_LIMIT - STOP),
+    Connection("a stop that leaves a halt no room", "Closed", post("admin", 1, "stop", bare(508)), used=STOP_LIMIT - STOP + 1),
 ]
 
 FAILS = [
