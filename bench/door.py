@@ -12,7 +12,6 @@ PROGRAM serves STORE, which is made by `init` if it is not there, at a port of t
 Prints a line for each, and exits with 1 where one is not as it should be. It takes a minute and a half.
 """
 import os
-import random
 import resource
 import socket
 import subprocess
@@ -20,6 +19,9 @@ import sys
 import tempfile
 import threading
 import time
+
+sys.dont_write_bytecode = True
+from ports import free_port  # noqa: E402
 
 UUID = "6ba7b810-9dad-11d1-80b4-00c04fd430c8"
 SLOW, FLOOD, HELD = 60, 2_000, 64
@@ -267,17 +269,6 @@ def flood(rows, port, process):
     time.sleep(0.5)
     took, status = ask(port, 10.0)
     rows.add("a question behind them", f"{1000 * took:.1f} ms", status == 200 and took < SOON)
-
-
-def free_port():
-    """A port that nothing listens at, and that the system gives to no connection by itself."""
-    while True:
-        port = random.randrange(20_000, 30_000)
-        try:
-            socket.create_server(("127.0.0.1", port)).close()
-            return port
-        except OSError:
-            pass
 
 
 def wait_for(port, status):

@@ -10,7 +10,6 @@ and its clock stands still.
 import http.client
 import json
 import os
-import random
 import shutil
 import socket
 import statistics
@@ -21,6 +20,7 @@ import time
 
 from http_rate import COUNT, FIRST, ROUNDS, compile_program, questions, records, report, seconds
 from http_table import FIRE, STORE, TOP, done, post
+from ports import free_port
 
 NEWSDESK = os.environ.get("NEWSDESK", os.path.join(TOP, "newsdesk"))
 NAMES = ("alpha", "beta")
@@ -82,17 +82,6 @@ class House:
         for one in self.receivers:
             one.kill()
             one.wait()
-
-
-def free_port():
-    """A port that nothing listens at, and that the system gives to no connection by itself."""
-    while True:
-        port = random.randrange(20_000, 30_000)
-        try:
-            socket.create_server(("127.0.0.1", port)).close()
-            return port
-        except OSError:
-            pass
 
 
 def wait_for(port):

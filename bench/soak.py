@@ -24,6 +24,7 @@ import time
 TOP = os.path.dirname(os.path.dirname(os.path.abspath(__file__)))
 sys.dont_write_bytecode = True
 sys.path.insert(0, os.path.join(TOP, "examples"))
+from ports import free_port  # noqa: E402
 from receiver import Connection, Receiver  # noqa: E402
 
 NEWSDESK = os.environ.get("NEWSDESK", os.path.join(TOP, "newsdesk"))
@@ -138,17 +139,6 @@ class Held:
 
 
 # ---- the server
-
-
-def free_port():
-    """A port that nothing listens at, and that the system gives to no connection by itself while what listens there is dead."""
-    while True:
-        port = random.randrange(20_000, 30_000)
-        try:
-            socket.create_server(("127.0.0.1", port)).close()
-            return port
-        except OSError:
-            pass
 
 
 class Ended(Exception):
