@@ -1,11 +1,15 @@
 //! The room.
-ghost use Rattle.std.specs.Prelude.{◌≡◌, ℕ, ◌≤◌, ◌∷◌, [], List, IfOk, length, false};
+ghost use Rattle.std.specs.Prelude.{◌≡◌, ℕ, ◌≤◌, ◌∷◌, [], List, IfOk, length, false, option_map};
+ghost use Rattle.std.specs.Option.{option_copied};
 ghost use Rattle.news_types.specs.declared.entry.Entry.{Entry};
 ghost use Rattle.news_types.specs.Names.{Bytes};
 ghost use Rattle.news_types.specs.History.{History, moment, moment_at, last_stop};
 ghost use Rattle.news_types.specs.Books.{Book};
 ghost use Rattle.news_types.specs.Calls.{Asked, Ingested, Requested};
-ghost use Rattle.news_types.specs.Answers.{query_answer};
+ghost use Rattle.news_types.specs.Due.{shown};
+ghost use Rattle.news_types.specs.Publications.{pubs};
+ghost use Rattle.news_types.specs.Answers.{query_answer, publication_at};
+ghost use Rattle.story_tables.specs.Pages.{publication_of};
 ghost use Rattle.news_types.specs.Frames.{frame_bytes_at};
 ghost use Rattle.feed_frames.specs.Writer.{the_writer};
 ghost use Rattle.news_room.specs.Stands.{limit_of};
@@ -15,6 +19,7 @@ use entry_codec::encode;
 use news_io::{AppendFault, Keeper};
 use news_types::{Act, Answer, Command, Entry, Incoming, Memory, Moment, Name, Query, StandsFor};
 use newsroom::{Change, Newsroom, Prepared};
+use publications::Published;
 use std::alloc::Global;
 
 /// How many bytes of the log an entry may use that is no stop and no halt.
@@ -191,6 +196,13 @@ impl<K: Keeper> Room<K> {
         ensures event { (b : Book) (now : ℕ) → Stands K.keeper self.now b → IsEvent K.keeper self.now self.now b [] (Asked query.now) now (said_told result) }
     {
         self.machine.ask(query)
+    }
+
+    /// What is kept of the publication of that number, if it is there. Nothing is copied.
+    pub fn published(&self, number: u32) -> Option<&Published>
+        ensures { (b : Book) → Stands K.keeper self.now b → option_map (publication_of number) (option_copied result) ≡ option_map shown (publication_at number (pubs b.list)) }
+    {
+        self.machine.published(number)
     }
 }
 

@@ -1,16 +1,21 @@
 //! Questions on the list as it is.
-ghost use Rattle.std.specs.Prelude.{◌≡◌, ◌&&◌, ℕ, false, nat_lt, nat_le, IfOk};
+ghost use Rattle.std.specs.Prelude.{◌≡◌, ◌&&◌, ℕ, false, nat_lt, nat_le, IfOk, option_map};
+ghost use Rattle.std.specs.Option.{option_copied};
 ghost use Rattle.news_types.specs.declared.query.Query.TheVariants as query;
 ghost use Rattle.news_types.specs.Names.{Bytes};
 ghost use Rattle.news_types.specs.History.{History};
-ghost use Rattle.news_types.specs.Answers.{query_answer};
+ghost use Rattle.news_types.specs.Due.{shown};
+ghost use Rattle.news_types.specs.Publications.{pubs};
+ghost use Rattle.news_types.specs.Answers.{query_answer, publication_at};
 ghost use Rattle.news_types.specs.Frames.{frame_bytes_at};
 ghost use Rattle.feed_frames.specs.Writer.{the_writer};
+ghost use Rattle.story_tables.specs.Pages.{publication_of};
 ghost use Rattle.newsroom.specs.Asking.{asks_frame, item_told, publication_told};
 ghost use Rattle.newsroom.specs.Stands.{StandsFor, Stands, store_of};
 
 use crate::newsroom::Newsroom;
 use news_types::{Answer, ItemRow, Memory, Name, Publication, Query, Thing};
+use publications::Published;
 
 impl Newsroom {
     /// Answers a question on the list as it is. An error is only want of memory.
@@ -24,6 +29,13 @@ impl Newsroom {
             Query::Frame { subscriber, k } => self.ask_frame(subscriber, *k),
             _ => self.ask_plain(query),
         }
+    }
+
+    /// What is kept of the publication of that number, if it is there. Nothing is copied.
+    pub fn published(&self, number: u32) -> Option<&Published>
+        ensures { (h : History) → StandsFor self.now h → option_map (publication_of number) (option_copied result) ≡ option_map shown (publication_at number (pubs h)) }
+    {
+        self.stories.published(number)
     }
 
     // Answers a question that is none for a frame.

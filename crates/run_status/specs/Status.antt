@@ -18,6 +18,7 @@ number_of status.Link = 10
 number_of status.NoReceipt = 11
 number_of status.TooLong = 12
 number_of (status.BadFrame at) = 13
+number_of status.BadHead = 14
 number_of status.Held = 15
 
 -- a byte, or nothing where there is none
@@ -45,4 +46,5 @@ line_of status.Link = codes "{\"status\":10}\n"
 line_of status.NoReceipt = codes "{\"status\":11}\n"
 line_of status.TooLong = codes "{\"status\":12}\n"
 line_of (status.BadFrame at) = codes "{\"at\":" ++ decimal at ++ codes ",\"status\":13}\n"
+line_of status.BadHead = codes "{\"status\":14}\n"
 line_of status.Held = codes "{\"status\":15}\n"

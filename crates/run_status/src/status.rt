@@ -50,6 +50,8 @@ pub enum Status {
         /// within a frame.
         at: u64,
     },
+    /// The first record of a table is missing, or is not its head.
+    BadHead,
     /// Another program has the store, and nothing of it was read or written.
     Held,
 }
@@ -98,6 +100,7 @@ impl Status {
             Status::NoReceipt => 11,
             Status::TooLong => 12,
             Status::BadFrame { .. } => 13,
+            Status::BadHead => 14,
             Status::Held => 15,
         }
     }
@@ -131,6 +134,7 @@ impl Status {
                 line.push_decimal(at);
                 line.push_slice(b",\"status\":13}\n");
             }
+            Status::BadHead => line.push_slice(b"{\"status\":14}\n"),
             Status::Held => line.push_slice(b"{\"status\":15}\n"),
         }
         line

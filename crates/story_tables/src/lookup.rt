@@ -1,5 +1,6 @@
 //! Publications by their numbers, and by their places in feeds.
 ghost use Rattle.std.specs.Prelude.{◌≡◌, true, IfOk, option_map};
+ghost use Rattle.std.specs.Option.{option_copied};
 ghost use Rattle.news_types.specs.Names.{is_in};
 ghost use Rattle.news_types.specs.History.{History};
 ghost use Rattle.news_types.specs.Products.{subscribers};
@@ -25,6 +26,13 @@ impl Stories {
         };
         let publication = copied(number, published)?;
         Ok(Some(publication))
+    }
+
+    /// What is kept of the publication of that number, if it is there. Nothing is copied.
+    pub fn published(&self, number: u32) -> Option<&Published>
+        ensures { (h : History) → KeepsStories self.now h → option_map (publication_of number) (option_copied result) ≡ option_map shown (publication_at number (pubs h)) }
+    {
+        self.publications.published(number)
     }
 
     /// The publication at place `k` of a feed, if so many are there.

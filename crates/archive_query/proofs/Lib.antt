@@ -1,0 +1,9 @@
+pub mod Naming
+pub mod Decimals
+pub mod Leads
+pub mod Stands
+pub mod Judged
+pub mod Cutting
+pub mod Verdicts
+pub mod Joining
+pub mod Once

@@ -1,0 +1,12 @@
+pub mod Words
+pub mod Query
+pub mod Folds
+pub mod Sought
+pub mod Tokens
+pub mod Grammar
+pub mod View
+pub mod Reading
+pub mod Readers
+pub mod Faults
+pub mod Parsing
+pub mod Laws

@@ -1,0 +1,4 @@
+pub mod Hits
+pub mod Paged
+pub mod Found
+pub mod Reported

@@ -1,0 +1,12 @@
+pub mod Text
+pub mod Composed
+pub mod Readers
+pub mod Marks
+pub mod Finding
+pub mod Opening
+pub mod Walking
+pub mod Associations
+pub mod Told
+pub mod Report
+pub mod Promise
+pub mod Publishing

@@ -1,0 +1,4 @@
+pub mod Imports
+pub mod Records
+pub mod Parts
+pub mod Importing

@@ -1,0 +1,13 @@
+//! Subscribers are added from a table: one record for each, as comma-separated values.
+#![tactic(auto)]
+
+mod import;
+mod laws;
+mod line;
+mod rows;
+mod table;
+mod wanted;
+
+pub use import::{Imported, import_table};
+pub use laws::import_law;
+pub use line::{Line, Lines};

@@ -1,0 +1,4 @@
+pub mod Reading
+pub mod Output
+pub mod Importing
+pub mod Packaging
