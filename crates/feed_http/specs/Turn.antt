@@ -72,6 +72,12 @@ tells_failure response = response.status == 503
 pub record IsRead (request : HttpRequest) (a : Asking) : Type 0 where
   pub is : asks request ≡ Ok a
 
+-- the archive at a list, behind a tick that was answered so: where the tick was refused nothing is searched
+abbrev pub FindsBehind : Book → ℕ → Bytes → Answer → Response → Type 0
+FindsBehind b page query Full response = response ≡ response_to Full
+FindsBehind b page query Fault response = response ≡ response_to Fault
+FindsBehind b page query answer response = IsToldAs (archive_response (archive_told b.list page query)) response
+
 module _ {K : Type 0} (keeper : KeeperMeaning K) where
   -- ---- the events of a turn
 
@@ -92,12 +98,6 @@ module _ {K : Type 0} (keeper : KeeperMeaning K) where
     pub answer : Answer
     pub event : IsEvent keeper old new b more Ticked now answer
     pub asks : AsksBehind new (onto more b) question now answer response
-
-  -- the archive at a list, behind a tick that was answered so: where the tick was refused nothing is searched
-  abbrev pub FindsBehind : Book → ℕ → Bytes → Answer → Response → Type 0
-  FindsBehind b page query Full response = response ≡ response_to Full
-  FindsBehind b page query Fault response = response ≡ response_to Fault
-  FindsBehind b page query answer response = IsToldAs (archive_response (archive_told b.list page query)) response
 
   -- a tick, and then a search of the list
   pub record TicksAndFinds (old new : Room K) (b : Book) (more : List Entry) (page : ℕ) (query : Bytes) (now : ℕ) (response : Response) : Type 0 where
