@@ -94,21 +94,21 @@ fn answer_ingest<K: Keeper>(
     tell_answered(alloc, room.ingest(now, provider, incoming))
 }
 
-/// Releases what waits, and then searches the archive.
+/// Releases what waits, and then searches a room, the archive.
 #[tactic(none)]
 fn answer_search<K: Keeper>(
     alloc: Global,
-    room: &mut Room<K>,
+    archive: &mut Room<K>,
     now: u64,
     page: u32,
     query: &Text,
 ) -> Response
-    requires { SomeBook K.keeper room.old }
-    ensures { (more : List Entry) × ((b : Book) → Stands K.keeper room.old b → AskTurn K.keeper room.old room.new b more (asked.Archive page query.now) now result) }
+    requires { SomeBook K.keeper archive.old }
+    ensures { (more : List Entry) × ((b : Book) → Stands K.keeper archive.old b → AskTurn K.keeper archive.old archive.new b more (asked.Archive page query.now) now result) }
 {
-    match room.tick(now) {
+    match archive.tick(now) {
         Ticked::Kept { .. } | Ticked::Still => {
-            tell_found(alloc, tell_archive(alloc, room, page, query.as_str()))
+            tell_found(alloc, tell_archive(alloc, archive, page, query.as_str()))
         }
         Ticked::Fault => notify(alloc, Notice::Fault),
         Ticked::Full { .. } => notify(alloc, Notice::Full),

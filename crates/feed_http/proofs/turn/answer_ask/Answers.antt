@@ -45,7 +45,7 @@ pub answer_package-requires-clause-fits : goal.answer_package-requires-clause-fi
 answer_package-requires-clause-fits g c = subst FitsAsk c.in-Package.is c.requires.fits
 
 pub returns-in-Archive : goal.returns-in-Archive
-returns-in-Archive g c = asked_as g.K.Keeper.keeper c.args.room.now c.answer_search.new.room c.args.ask (ask.Archive c.in-Archive.page c.in-Archive.query) c.args.now c.answer_search.result c.in-Archive.is c.answer_search.ensures
+returns-in-Archive g c = asked_as g.K.Keeper.keeper c.args.room.now c.answer_search.new.archive c.args.ask (ask.Archive c.in-Archive.page c.in-Archive.query) c.args.now c.answer_search.result c.in-Archive.is c.answer_search.ensures
 
 pub returns-in-Package : goal.returns-in-Package
 returns-in-Package g c = asked_as g.K.Keeper.keeper c.args.room.now c.answer_package.new.room c.args.ask (ask.Package c.in-Package.caller c.in-Package.number c.in-Package.described) c.args.now c.answer_package.result c.in-Package.is c.answer_package.ensures

@@ -15,15 +15,15 @@ returns-in-Kept g c =
     let r = c.tick.ensures in (
       r.0,
       λ b stands.
-          search_turn g.K.Keeper.keeper c.args.room.now c.tick.new.self b r.0 c.args.page c.args.query.now c.args.now c.tell_found.result c.tick.result c.tell_archive.result c.in-Kept.is (r.1 b stands) c.tell_archive.ensures c.tell_found.ensures,
+          search_turn g.K.Keeper.keeper c.args.archive.now c.tick.new.self b r.0 c.args.page c.args.query.now c.args.now c.tell_found.result c.tick.result c.tell_archive.result c.in-Kept.is (r.1 b stands) c.tell_archive.ensures c.tell_found.ensures,
     )
 
 pub returns-in-Fault : goal.returns-in-Fault
 returns-in-Fault g c =
     let r = c.in-Fault.ensures in
-    (r.0, λ b stands. search_failed g.K.Keeper.keeper c.args.room.now c.tick.new.self b r.0 c.args.page c.args.query.now c.args.now c.notify.result (r.1 b stands) c.notify.ensures)
+    (r.0, λ b stands. search_failed g.K.Keeper.keeper c.args.archive.now c.tick.new.self b r.0 c.args.page c.args.query.now c.args.now c.notify.result (r.1 b stands) c.notify.ensures)
 
 pub returns-in-Full : goal.returns-in-Full
 returns-in-Full g c =
     let r = c.in-Full.ensures in
-    (r.0, λ b stands. search_refused g.K.Keeper.keeper c.args.room.now c.tick.new.self b r.0 c.args.page c.args.query.now c.args.now c.notify-in-Full.result c.in-Full.size c.in-Full.length (r.1 b stands) c.notify-in-Full.ensures)
+    (r.0, λ b stands. search_refused g.K.Keeper.keeper c.args.archive.now c.tick.new.self b r.0 c.args.page c.args.query.now c.args.now c.notify-in-Full.result c.in-Full.size c.in-Full.length (r.1 b stands) c.notify-in-Full.ensures)
