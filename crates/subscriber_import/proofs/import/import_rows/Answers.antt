@@ -7,8 +7,14 @@ use Rattle.subscriber_import.specs.declared.import.Imported.{Imported}
 use Rattle.subscriber_import.specs.declared.line.Line.{Line}
 use Rattle.subscriber_import.specs.Table.{Row}
 use Rattle.subscriber_import.specs.Steps.{Imports, stopped_by}
-use Rattle.subscriber_import.proofs.Importing.{Gone, gone_next, gone_unsaid, gone_all, gone_stopped, rows_are, rows_next}
+use Rattle.subscriber_import.proofs.Importing.{Gone, none_gone, gone_next, gone_unsaid, gone_all, gone_stopped, rows_are, rows_next}
 use Rattle.subscriber_import.proofs.import.import_rows.Goals as goal
+
+pub loop-row-init : goal.loop-row-init
+loop-row-init g c = (
+  [],
+  λ b stands. none_gone g.K.Keeper.keeper c.args.caller c.args.now c.args.room.now b c.new-lines.result.items stands c.new-lines.ensures.items,
+)
 
 pub returns-in-Err : goal.returns-in-Err
 returns-in-Err g c =
@@ -77,7 +83,7 @@ loop-row-preserved g c =
           let gone = inv.1 b stands in
           let next = found.1 (onto inv.0 b) gone.after.stands in
           let then = gone_next keeper c.args.caller c.args.now old c.loop-row.room new b before inv.0 lines gone row found.0 c.in-Ok.line next in
-          subst (λ (told : List Line). Gone keeper c.args.caller c.args.now old new b (map fields_of (take (i + 1) rows)) (inv.0 ++ found.0) told) (sym c.in-Ok-push.ensures.items)
+          subst (λ (told : List Line). Gone keeper c.args.caller c.args.now old new b (map fields_of (take (i + 1) rows)) (inv.0 ++ found.0) told) (sym {A = List Line} c.in-Ok-push.ensures.items)
           (subst (λ (rs : List Row). Gone keeper c.args.caller c.args.now old new b rs (inv.0 ++ found.0) (lines ++ c.in-Ok.line ∷ [])) (sym (rows_next fields_of rows i c.row-item.result within c.row-item.is)) then),
     )
 
