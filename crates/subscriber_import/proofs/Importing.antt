@@ -17,11 +17,10 @@ use Rattle.news_types.specs.Names.{Bytes}
 use Rattle.news_types.specs.History.{History, moment_at, last, last_number}
 use Rattle.news_types.specs.Books.{Book, onto, followed_by}
 use Rattle.news_types.specs.Products.{is_subscriber}
-use Rattle.news_types.specs.Feeds.{feed}
 use Rattle.news_types.specs.Answers.{query_answer, feed_answer}
 use Rattle.news_types.specs.Denial.{turn_denial, is_repeat, command_denial}
 use Rattle.news_types.specs.Outcome.{Outcome, Answered, Done, Repeat, Denied, request, request_at, refused, kept, kept_unless, last_reply}
-use Rattle.news_types.specs.Calls.{Requested, follow}
+use Rattle.news_types.specs.Calls.{Requested}
 use Rattle.news_io.specs.Keeper.{KeeperMeaning}
 use Rattle.news_room.specs.Beside.{Beside, beside}
 use Rattle.news_room.specs.Log.{sizes}
@@ -41,7 +40,7 @@ use Rattle.subscriber_import.specs.Fields.{Wanted, wanted_of, command_of}
 use Rattle.subscriber_import.specs.Table.{Row}
 use Rattle.subscriber_import.specs.Import.{asked, added_by, told_as, line_by, imported, lines, added, behind}
 use Rattle.subscriber_import.specs.Steps.{next_of, RowStep, line_of, expected_of, expected_in, NumberStep, HasStopped, ImportStep, HasNoHead, Imports, stopped_by, is_stop_fault, is_import_fault}
-use Rattle.subscriber_import.proofs.Imports.{added_is_imported, behind_one}
+use Rattle.subscriber_import.proofs.Imports.{added_is_imported}
 
 -- ---- whether a subscriber is there
 
@@ -117,7 +116,7 @@ module _ {K : Type 0} (keeper : KeeperMeaning K) where
 
     -- there is one
     pub number_there : (handled : Handled) → Zero handled → expected_in handled ≡ None → ⊥
-    number_there (Handled.Denied denial) h is = no_number (sym (ap expected_of (denial_is (OutOfTurn (last_number b.list caller + 1)) denial h.step.0)) ) is
+    number_there (Handled.Denied denial) h is = no_number (sym (ap expected_of (denial_is (OutOfTurn (last_number b.list caller + 1)) denial h.step.0))) is
       where
         no_number : expected_of denial ≡ Some (Some (last_number b.list caller + 1)) → expected_of denial ≡ None → ⊥
         no_number some none = cc
@@ -236,12 +235,12 @@ module _ {K : Type 0} (keeper : KeeperMeaning K) where
       let said_number : request h caller number (command_of w) now ≡ asked h caller now w = ap (λ (k : ℕ). request h caller k (command_of w) now) one.did.0 in
       let answers = subst (λ (o : Outcome Answered). Answers (numbers keeper mid new) more o handled) said_number two.step in
       let step : T =
-          asked_line (numbers keeper old new) h caller now w more new_one handled
-          (answers_then (keeper.faults old.keeper) (keeper.used old.keeper) (keeper.faults mid.keeper) (keeper.used mid.keeper) (keeper.faults new.keeper) (keeper.used new.keeper) more (asked h caller now w) handled one.did.1 answers) in
+      asked_line (numbers keeper old new) h caller now w more new_one handled
+      (answers_then (keeper.faults old.keeper) (keeper.used old.keeper) (keeper.faults mid.keeper) (keeper.used mid.keeper) (keeper.faults new.keeper) (keeper.used new.keeper) more (asked h caller now w) handled one.did.1 answers) in
       let a : After keeper mid new b (entries (request h caller number (command_of w) now).more) more (is_failure (said handled)) U = record { stands = two.stands; did = two.step; told = two.told } in
       let both = after_then keeper old mid new b [] (entries (request h caller number (command_of w) now).more) [] more (is_failure (said handled)) S U T refl one a step in
       let should : entries (request h caller number (command_of w) now).more ≡ next_of h caller now (Some w) =
-          ap (λ (o : Outcome Answered). entries o.more) said_number ∙ next_is (numbers keeper old new) h caller now w more new_one in
+      ap (λ (o : Outcome Answered). entries o.more) said_number ∙ next_is (numbers keeper old new) h caller now w more new_one in
       subst (λ (f : Bool). After keeper old new b (next_of h caller now (Some w)) more f T) (fault_same handled)
       (after_should keeper old new b (entries (request h caller number (command_of w) now).more) (next_of h caller now (Some w)) more (is_failure (said handled)) T T should both step)
 
@@ -321,7 +320,7 @@ module _ {K : Type 0} (keeper : KeeperMeaning K) (caller : Bytes) (now : ℕ) wh
     given_both given =
         subst (λ (l : List Entry). Given (numbers keeper old new) LIMIT l (more ++ found)) should_is
         (given_given (keeper.faults old.keeper) (keeper.used old.keeper) (keeper.faults mid.keeper) (keeper.used mid.keeper) (keeper.faults new.keeper) (keeper.used new.keeper) LIMIT
-          (added b.list caller now before) (next_of (followed_by more b.list) caller now (wanted_of row)) more found gone.after.did given)
+        (added b.list caller now before) (next_of (followed_by more b.list) caller now (wanted_of row)) more found gone.after.did given)
 
     -- both calls
     both : (failed : Bool) (U T : Type 0) → After keeper mid new (onto more b) (next_of (followed_by more b.list) caller now (wanted_of row)) found failed U → T → After keeper old new b (added b.list caller now (before ++ row ∷ [])) (more ++ found) failed T
@@ -372,7 +371,7 @@ module _ {K : Type 0} (keeper : KeeperMeaning K) (caller : Bytes) (now : ℕ) wh
           let step : ImportStep (numbers keeper old new) b.list caller now (before ++ row ∷ rest) (more ++ found) Imported.Fault = (
             stopped (none_first (added_by (followed_by more b.list) caller now (wanted_of row)) found two.did.next two.did.rest two.did.is),
             subst (λ (l : List Entry). Failed (numbers keeper old new) LIMIT l (more ++ found)) more_is
-            (failed_longer (numbers keeper old new) LIMIT (added b.list caller now (before ++ row ∷ [])) (added (imported b.list caller now (before ++ row ∷ [])) caller now rest) (more ++ found) all),
+                (failed_longer (numbers keeper old new) LIMIT (added b.list caller now (before ++ row ∷ [])) (added (imported b.list caller now (before ++ row ∷ [])) caller now rest) (more ++ found) all),
           ) in
           longer true (RowStep (numbers keeper mid new) (followed_by more b.list) caller now (wanted_of row) found (Err Stop.Fault)) (ImportStep (numbers keeper old new) b.list caller now (before ++ row ∷ rest) (more ++ found) Imported.Fault) two step
 
@@ -385,7 +384,7 @@ module _ {K : Type 0} (keeper : KeeperMeaning K) (caller : Bytes) (now : ℕ) wh
           let step : ImportStep (numbers keeper old new) b.list caller now (before ++ row ∷ rest) (more ++ found) (Imported.Full size count) = (
             stopped (none_first (added_by (followed_by more b.list) caller now (wanted_of row)) found two.did.next two.did.rest two.did.is),
             subst (λ (l : List Entry). Refused (numbers keeper old new) LIMIT l (more ++ found) size count) more_is
-            (refused_longer (numbers keeper old new) LIMIT (added b.list caller now (before ++ row ∷ [])) (added (imported b.list caller now (before ++ row ∷ [])) caller now rest) (more ++ found) size count all),
+                (refused_longer (numbers keeper old new) LIMIT (added b.list caller now (before ++ row ∷ [])) (added (imported b.list caller now (before ++ row ∷ [])) caller now rest) (more ++ found) size count all),
           ) in
           longer false (RowStep (numbers keeper mid new) (followed_by more b.list) caller now (wanted_of row) found (Err (Stop.Full size count))) (ImportStep (numbers keeper old new) b.list caller now (before ++ row ∷ rest) (more ++ found) (Imported.Full size count)) two step
 
@@ -395,7 +394,7 @@ module _ {K : Type 0} (keeper : KeeperMeaning K) (caller : Bytes) (now : ℕ) wh
       gone_memory two =
           let none = two.did.is in
           let given = given_given (keeper.faults old.keeper) (keeper.used old.keeper) (keeper.faults mid.keeper) (keeper.used mid.keeper) (keeper.faults new.keeper) (keeper.used new.keeper) LIMIT (added b.list caller now before) [] more found gone.after.did
-              (nothing_kept (numbers keeper mid new) found two.did) in
+          (nothing_kept (numbers keeper mid new) found two.did) in
           let step : ImportStep (numbers keeper old new) b.list caller now (before ++ row ∷ rest) (more ++ found) Imported.Memory = (stopped none, subst (λ (l : List Entry). Given (numbers keeper old new) LIMIT l (more ++ found)) (append-nil (added b.list caller now before)) given) in
           longer false (RowStep (numbers keeper mid new) (followed_by more b.list) caller now (wanted_of row) found (Err Stop.Memory)) (ImportStep (numbers keeper old new) b.list caller now (before ++ row ∷ rest) (more ++ found) Imported.Memory) two step
         where

@@ -1,8 +1,8 @@
 -- The records of a text are those that it is read as.
-use Rattle.std.proofs.Common.{◌≡◌, ◌⊎◌, inl, inr, ◌==◌, ℕ, zero, suc, ◌+◌, ◌<◌, ◌≤◌, Bool, true, false, ◌&&◌, ◌||◌, cond, Option, Some, None, List, [], ◌∷◌, ◌++◌, length, refl, sym, ap, subst, ◌∙◌, arith, add-one}
+use Rattle.std.proofs.Common.{◌≡◌, ◌⊎◌, inl, inr, ◌==◌, ℕ, zero, suc, ◌<◌, ◌≤◌, Bool, true, false, cond, Some, None, List, [], ◌∷◌, ◌++◌, length, refl, sym, ap, subst, ◌∙◌, arith, add-one}
 use mathlib.Core.Bool.{true≢false}
 use Rattle.csv.specs.Machine.{Read, is_end, step, in_field, start_field, start_record, after_end, ends_with, ends_at_end, fields_after, field_after, next_record}
-use Rattle.csv.specs.Reading.{default_config, strip_bom, records, records_from, records_next, Reached, AreRecords}
+use Rattle.csv.specs.Reading.{default_config, strip_bom, records_from, records_next, Reached}
 use Rattle.csv.specs.declared.parser.State.{State}
 use Rattle.csv.specs.declared.parser.State.TheVariants as st
 use Rattle.csv.specs.declared.parser.Action.{Action}

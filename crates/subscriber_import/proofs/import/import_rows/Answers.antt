@@ -27,15 +27,14 @@ returns-in-Err g c =
     let within : i < length rows = c.loop-row-test.true in
     let before : List Row = map fields_of (take i rows) in
     let rest : List Row = map fields_of (drop (i + 1) rows) in
-    let found = c.in-Err.ensures in
-    (
+    let found = c.in-Err.ensures in (
       inv.0 ++ found.0,
       λ b stands.
           let gone = inv.1 b stands in
           let next = found.1 (onto inv.0 b) gone.after.stands in
           subst (λ (r : Imported). Imports keeper old new b c.args.caller c.args.now (Some (map fields_of rows)) (inv.0 ++ found.0) r) (sym c.stopped.ensures)
           (subst (λ (rs : List Row). Imports keeper old new b c.args.caller c.args.now (Some rs) (inv.0 ++ found.0) (stopped_by c.in-Err.stop)) (rows_are fields_of rows i c.row-item.result within c.row-item.is)
-            (gone_stopped keeper c.args.caller c.args.now old c.loop-row.room new b before inv.0 c.loop-row.lines.items gone (fields_of c.row-item.result) found.0 rest c.in-Err.stop next)),
+          (gone_stopped keeper c.args.caller c.args.now old c.loop-row.room new b before inv.0 c.loop-row.lines.items gone (fields_of c.row-item.result) found.0 rest c.in-Err.stop next)),
     )
 
 pub returns-in-Err-push : goal.returns-in-Err-push
@@ -51,8 +50,7 @@ returns-in-Err-push g c =
     let row : Row = fields_of c.row-item.result in
     let rest : List Row = map fields_of (drop (i + 1) rows) in
     let lines : List Line = c.loop-row.lines.items in
-    let found = c.in-Ok.ensures in
-    (
+    let found = c.in-Ok.ensures in (
       inv.0 ++ found.0,
       λ b stands.
           let gone = inv.1 b stands in
@@ -76,8 +74,7 @@ loop-row-preserved g c =
     let before : List Row = map fields_of (take i rows) in
     let row : Row = fields_of c.row-item.result in
     let lines : List Line = c.loop-row.lines.items in
-    let found = c.in-Ok.ensures in
-    (
+    let found = c.in-Ok.ensures in (
       inv.0 ++ found.0,
       λ b stands.
           let gone = inv.1 b stands in
@@ -95,11 +92,10 @@ returns g c =
     let inv = c.loop-row.invariant in
     let rows : List ByteRecord = c.args.rows.now in
     let i : ℕ = c.loop-row.row-index in
-    let all : take i rows ≡ rows = take_all i rows (omega arith) in
-    (
+    let all : take i rows ≡ rows = take_all i rows (omega arith) in (
       inv.0,
       λ b stands.
           subst (λ (told : List Line). Imports keeper old new b c.args.caller c.args.now (Some (map fields_of rows)) inv.0 (Imported.Done told)) (sym c.of.ensures)
           (subst (λ (rs : List ByteRecord). Imports keeper old new b c.args.caller c.args.now (Some (map fields_of rs)) inv.0 (Imported.Done c.loop-row.lines.items)) all
-            (gone_all keeper c.args.caller c.args.now old new b (map fields_of (take i rows)) inv.0 c.loop-row.lines.items (inv.1 b stands))),
+          (gone_all keeper c.args.caller c.args.now old new b (map fields_of (take i rows)) inv.0 c.loop-row.lines.items (inv.1 b stands))),
     )

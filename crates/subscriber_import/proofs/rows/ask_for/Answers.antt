@@ -25,8 +25,8 @@ returns-in-Some g c = (
       let handled = c.request.result in
       let one = c.in-Some.ensures b stands in
       let two =
-          subst (λ (k : Command). Happens keeper mid new b more (Requested c.args.caller c.in-Some.number k) c.args.now (said handled) (RequestStep (numbers keeper mid new) b c.args.now c.args.caller c.in-Some.number k more handled))
-          c.add_command.ensures (c.request.ensures.1 b one.stands) in
+      subst (λ (k : Command). Happens keeper mid new b more (Requested c.args.caller c.in-Some.number k) c.args.now (said handled) (RequestStep (numbers keeper mid new) b c.args.now c.args.caller c.in-Some.number k more handled))
+      c.add_command.ensures (c.request.ensures.1 b one.stands) in
       subst (λ (r : Result Line Stop). After keeper old new b (next_of b.list c.args.caller c.args.now (Some w)) more (is_stop_fault r) (RowStep (numbers keeper old new) b.list c.args.caller c.args.now (Some w) more r))
       (sym c.told.ensures) (asked_told keeper old mid new b c.args.caller c.args.now c.in-Some.number w more handled new_one one two),
 )
