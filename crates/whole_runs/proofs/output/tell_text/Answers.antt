@@ -12,7 +12,7 @@ returns-in-Err g c =
     let e = c.in-Err.ensures in
     let text = c.args.text.now in
     inr (inl (
-      c.number-2.ensures,
+      c.number-in-Err.ensures,
       record {
         front = take e.err.0 text;
         first = (drop e.err.0 text, sym (take-append-drop e.err.0 text));
