@@ -4,10 +4,11 @@ ghost use Rattle.std.specs.Char.{is_ascii_digit};
 ghost use Rattle.std.specs.List.{list_all};
 ghost use Rattle.std.specs.Option.{option_map};
 ghost use Rattle.uuid.specs.Text.{parsed};
-ghost use Rattle.command_words.specs.declared.words.Job.TheVariants.{Init, Receive};
-ghost use Rattle.command_words.specs.Words.{drill_of, feed_of, format_of, ingest_of, job_of, name_of, number_of, seed_of};
+ghost use Rattle.command_words.specs.declared.words.Job.TheVariants.{Contents, Import, Init, Receive};
+ghost use Rattle.command_words.specs.Words.{archive_of, drill_of, feed_of, format_of, ingest_of, job_of, name_of, number_of, package_of, seed_of};
 ghost use Rattle.command_words.specs.Words as spec;
 
+use crate::word::Word;
 use news_types::{Format, Name, Text};
 use uuid::Uuid;
 
@@ -15,18 +16,26 @@ use uuid::Uuid;
 const MOST_STORIES: u32 = 100_000;
 
 /// What a command line asks for.
-#[derive(Clone, Copy, PartialEq, Eq)]
-pub enum Job {
+#[derive(Drop)]
+pub enum Job<'a> {
     /// To make an empty log for the store of this identifier.
     Init(Uuid),
     /// To answer the lines of the input.
     Batch,
     /// To take in what the input has, in this format, from this provider.
     Ingest { format: Format, provider: Name },
+    /// To add the subscribers of the table that the input is, as requests of this caller.
+    Import(Name),
+    /// To publish the package that the input is, as this caller's request of this number.
+    Package { caller: Name, number: u64 },
     /// To release what waits, and report this subscriber's feed behind its first entries, so many.
     Feed { subscriber: Name, after: u32 },
     /// To release what waits, and report all feeds.
     Queue,
+    /// To tell which publications the query finds, behind so many pages.
+    Archive { page: u32, query: Word<'a> },
+    /// To tell what the publication of this number holds.
+    Contents(u32),
     /// To push what is due over the links to receivers.
     Drain,
     /// To take the frames of the input as the receiver of this name.
@@ -40,7 +49,7 @@ pub enum Job {
 }
 
 /// What these words ask for, if they are a command.
-pub fn read_words(words: &[Text]) -> Option<Job>
+pub fn read_words(words: &[Text]) -> Option<Job<'_>>
     ensures { result ≡ job_of words.now }
 {
     let [verb, first, rest @ ..] = words else {
@@ -66,19 +75,19 @@ pub(crate) fn is_option(word: &str) -> bool
 }
 
 /// What this word, a store and up to two words more ask for.
-fn job_by(verb: &str, words: &[Text]) -> Option<Job>
+fn job_by<'a>(verb: &str, words: &'a [Text]) -> Option<Job<'a>>
     ensures { result ≡ spec.job_by verb.now words.now }
 {
     match words {
         [] => short_job(verb),
         [word] => long_job(verb, word.as_str()),
-        [first, second] => wide_job(verb, first.as_str(), second.as_str()),
+        [first, second] => wide_job(verb, first.as_str(), second),
         _ => None,
     }
 }
 
 /// To push what is due, if these are the names of receivers and their addresses by turns, no name twice.
-fn drain_job(pairs: &[Text]) -> Option<Job>
+fn drain_job<'a>(pairs: &[Text]) -> Option<Job<'a>>
     ensures { result ≡ spec.drain_job pairs.now }
 {
     if are_pairs(pairs) {
@@ -115,7 +124,7 @@ fn names(pairs: &[Text], name: &Text) -> bool
 }
 
 /// To drill so many stories with a seed, if these are the two numbers.
-fn drill_job(stories: &str, words: &[Text]) -> Option<Job>
+fn drill_job<'a>(stories: &str, words: &[Text]) -> Option<Job<'a>>
     ensures { result ≡ spec.drill_job stories.now words.now }
 {
     match words {
@@ -125,7 +134,7 @@ fn drill_job(stories: &str, words: &[Text]) -> Option<Job>
 }
 
 /// To drill so many stories with this seed, if the words are numbers, and the first one from 1 to 100000.
-fn drill_by(stories: &str, seed: &str) -> Option<Job>
+fn drill_by<'a>(stories: &str, seed: &str) -> Option<Job<'a>>
     ensures { result ≡ drill_of (number_of stories.now) (seed_of seed.now) }
 {
     let stories = read_number(stories)?;
@@ -137,7 +146,7 @@ fn drill_by(stories: &str, seed: &str) -> Option<Job>
 }
 
 /// What this word and a store ask for.
-fn short_job(verb: &str) -> Option<Job>
+fn short_job<'a>(verb: &str) -> Option<Job<'a>>
     ensures { result ≡ spec.short_job verb.now }
 {
     match verb {
@@ -150,7 +159,7 @@ fn short_job(verb: &str) -> Option<Job>
 }
 
 /// What this word, a store and one word more ask for.
-fn long_job(verb: &str, word: &str) -> Option<Job>
+fn long_job<'a>(verb: &str, word: &str) -> Option<Job<'a>>
     ensures { result ≡ spec.long_job verb.now word.now }
 {
     if verb == "init" {
@@ -159,11 +168,17 @@ fn long_job(verb: &str, word: &str) -> Option<Job>
     if verb == "receive" {
         return receive_job(word);
     }
+    if verb == "import" {
+        return import_job(word);
+    }
+    if verb == "contents" {
+        return contents_job(word);
+    }
     None
 }
 
 /// To make a log for the store that this identifies, if it does.
-fn init_job(identifier: &str) -> Option<Job>
+fn init_job<'a>(identifier: &str) -> Option<Job<'a>>
     ensures { result ≡ option_map Init (parsed identifier.now) }
 {
     match Uuid::parse_str(identifier) {
@@ -173,25 +188,41 @@ fn init_job(identifier: &str) -> Option<Job>
 }
 
 /// To take frames as the receiver of this name, if it is one.
-fn receive_job(name: &str) -> Option<Job>
+fn receive_job<'a>(name: &str) -> Option<Job<'a>>
     ensures { result ≡ option_map Receive (name_of name.now) }
 {
     Some(Job::Receive(Name::read(name)?))
 }
 
+/// To add the subscribers of a table as requests of this caller, if the word is a name.
+fn import_job<'a>(caller: &str) -> Option<Job<'a>>
+    ensures { result ≡ option_map Import (name_of caller.now) }
+{
+    Some(Job::Import(Name::read(caller)?))
+}
+
+/// To tell what the publication of this number holds, if the word is one.
+fn contents_job<'a>(publication: &str) -> Option<Job<'a>>
+    ensures { result ≡ option_map Contents (number_of publication.now) }
+{
+    Some(Job::Contents(read_number(publication)?))
+}
+
 /// What this word, a store and two words more ask for.
-fn wide_job(verb: &str, first: &str, second: &str) -> Option<Job>
+fn wide_job<'a>(verb: &str, first: &str, second: &'a Text) -> Option<Job<'a>>
     ensures { result ≡ spec.wide_job verb.now first.now second.now }
 {
     match verb {
-        "ingest" => ingest_job(first, second),
-        "feed" => feed_job(first, second),
+        "ingest" => ingest_job(first, second.as_str()),
+        "package" => package_job(first, second.as_str()),
+        "feed" => feed_job(first, second.as_str()),
+        "archive" => archive_job(first, second),
         _ => None,
     }
 }
 
 /// To take in what comes in this format from this provider, if they are a format and a name.
-fn ingest_job(format: &str, provider: &str) -> Option<Job>
+fn ingest_job<'a>(format: &str, provider: &str) -> Option<Job<'a>>
     ensures { result ≡ ingest_of (format_of format.now) (name_of provider.now) }
 {
     Some(Job::Ingest {
@@ -201,12 +232,32 @@ fn ingest_job(format: &str, provider: &str) -> Option<Job>
 }
 
 /// To report this subscriber's feed behind so many entries, if they are a name and a number.
-fn feed_job(subscriber: &str, after: &str) -> Option<Job>
+fn feed_job<'a>(subscriber: &str, after: &str) -> Option<Job<'a>>
     ensures { result ≡ feed_of (name_of subscriber.now) (number_of after.now) }
 {
     Some(Job::Feed {
         subscriber: Name::read(subscriber)?,
         after: read_number(after)?,
+    })
+}
+
+/// To publish a package as this caller's request of this number, if they are a name and a number.
+fn package_job<'a>(caller: &str, number: &str) -> Option<Job<'a>>
+    ensures { result ≡ package_of (name_of caller.now) (seed_of number.now) }
+{
+    Some(Job::Package {
+        caller: Name::read(caller)?,
+        number: read_seed(number)?,
+    })
+}
+
+/// To tell what this query finds behind so many pages, if the first word is a number.
+fn archive_job<'a>(page: &str, query: &'a Text) -> Option<Job<'a>>
+    ensures { result ≡ archive_of (number_of page.now) query.now }
+{
+    Some(Job::Archive {
+        page: read_number(page)?,
+        query: Word::of(query),
     })
 }
 
