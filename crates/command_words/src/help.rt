@@ -68,8 +68,8 @@ const TAIL: &str = "newsdesk --help                         say this
 newsdesk COMMAND --help                 say the line of one command
 newsdesk --version                      say the version
 
-Options stand directly behind COMMAND: with --wait it waits for a STORE that another program has, `check --beside STORE` reads one
-that is being served, and `serve --key FILE STORE ..` answers only who sends the first line of FILE as the header X-Key.
+Options stand directly behind COMMAND: with --wait it waits for a STORE that another program has, with --beside check, archive and
+contents read one that is being served, and `serve --key FILE STORE ..` answers only who sends the first line of FILE as the header X-Key.
 
 A line of `batch` is a request, as
   {\"by\":\"admin\",\"number\":1,\"do\":\"add_subscriber\",\"subscriber\":\"alpha\",\"format\":\"ninjs\",\"products\":[\"all\"]}

@@ -24,6 +24,7 @@ use Rattle.news_pair.specs.declared.pack_fault.PackFault.{PackFault}
 use Rattle.news_pair.specs.declared.pack_fault.PackFault.TheVariants as fault
 use Rattle.news_pair.specs.PackFaults.{IsDamage, FaultCounts}
 use Rattle.news_room.specs.declared.room.Room.{Room}
+use Rattle.package_rules.specs.Report.{contents_report}
 use Rattle.publish_workers.specs.LinkDrains.{end_of_all}
 use Rattle.room_reports.specs.Reports.{feed_report_at, queue_report_at}
 use Rattle.room_runs.specs.Desk.{Hand, line_hand}
@@ -39,19 +40,23 @@ use Rattle.store_files.specs.Trouble.{status_of, trouble_of_pack}
 use Rattle.store_files.specs.declared.trouble.Trouble.{Trouble}
 use Rattle.store_files.specs.declared.trouble.Trouble.TheVariants as trouble
 use Rattle.store_files.proofs.Serving.{served}
-use Rattle.newsdesk_cli.specs.Command.{check_line, IsServed, Serves, NotOpened, IsTold, IsChecked, HasAnswered, IsReportOf, IsDrain, Does}
+use Rattle.newsdesk_cli.specs.Archive.{IsAsked}
+use Rattle.newsdesk_cli.specs.Command.{check_line, IsServed, Serves, HasAnswered, IsReportOf, IsDrain, Does}
+use Rattle.newsdesk_cli.specs.Imports.{IsImportOf}
+use Rattle.newsdesk_cli.specs.Opened.{NotOpened}
+use Rattle.newsdesk_cli.specs.Packages.{IsPackageOf}
+use Rattle.newsdesk_cli.specs.Telling.{IsTold, IsAnswered}
 use Rattle.newsdesk_cli.specs.Packing.{packed_line}
 use Rattle.command_words.specs.declared.words.Job.{Job}
-use Rattle.command_words.specs.declared.words.Job.TheVariants.{Init, Batch, Ingest, Feed, Queue, Drain, Receive, Drill, Check, Pack}
+use Rattle.command_words.specs.declared.words.Job.TheVariants.{Init, Batch, Ingest, Import, Package, Feed, Queue, Archive, Contents, Drain, Receive, Drill, Check, Pack}
 use Rattle.newsdesk_cli.proofs.Commands.{rose_along}
 use Rattle.newsdesk_cli.proofs.Draining.{drain_else, drain_failed}
+use Rattle.newsdesk_cli.proofs.Importing.{import_served}
+use Rattle.newsdesk_cli.proofs.Packaging.{package_served}
 use Rattle.newsdesk_cli.proofs.Reporting.{reported_else}
+use Rattle.newsdesk_cli.proofs.Statuses.{others}
 
 -- ---- statuses
-
--- any other number
-others : (before now n status : ℕ) → (n ≡ 3 → ⊥) → (n ≡ 7 → ⊥) → (n ≡ 6 → Rose before now) → status ≡ n → IsServed before now status
-others before now n status own whole failed is = record { own = λ s. own (sym is ∙ s); whole = λ s. whole (sym is ∙ s); failed = λ s. failed (sym is ∙ s) }
 
 by_trouble : (t : Trouble) (before now status : ℕ) → IsNotOfBytes t → TroubleCounts before now t → status ≡ number_of (status_of t) → IsServed before now status
 by_trouble trouble.WrongStore before now status outside count is = absurd outside
@@ -83,9 +88,13 @@ module _ {O : Type 0} (sink : SinkMeaning O) (o o' : O) (before now status : ℕ
   told_served line (inl done) = others before now 0 status (λ s. absurd (omega (arith, s))) (λ s. absurd (omega (arith, s))) (λ s. absurd (omega (arith, s))) done.0
   told_served line (inr cut) = others before now 5 status (λ s. absurd (omega (arith, s))) (λ s. absurd (omega (arith, s))) (λ s. absurd (omega (arith, s))) cut.0
 
-  check_served : (h : History) → IsChecked sink h o o' status → IsServed before now status
-  check_served h (inl told) = told_served (check_line h) told
-  check_served h (inr stopped) = others before now 9 status (λ s. absurd (omega (arith, s))) (λ s. absurd (omega (arith, s))) (λ s. absurd (omega (arith, s))) stopped.status_is
+  answer_served : (line : List ℕ) → IsAnswered sink line o o' status → IsServed before now status
+  answer_served line (inl told) = told_served line told
+  answer_served line (inr stopped) = others before now 9 status (λ s. absurd (omega (arith, s))) (λ s. absurd (omega (arith, s))) (λ s. absurd (omega (arith, s))) stopped.status_is
+
+  asked_served : (h : History) (page : ℕ) (query : Bytes) → IsAsked sink h page query o o' status → IsServed before now status
+  asked_served h page query (inl answer) = told_served answer.0 answer.2
+  asked_served h page query (inr stopped) = others before now 9 status (λ s. absurd (omega (arith, s))) (λ s. absurd (omega (arith, s))) (λ s. absurd (omega (arith, s))) stopped.status_is
 
 module _ {D O S C : Type 0} (disk : DiskMeaning D) (clock : ClockMeaning C) (source : SourceMeaning S) (sink : SinkMeaning O)
     (log log' side side' : D) (i i' : S) (o o' : O) (c c' : C) (status : ℕ)
@@ -124,6 +133,14 @@ module _ {D O S C : Type 0} (disk : DiskMeaning D) (clock : ClockMeaning C) (sou
         failed = λ is. rose_along disk log side log' side' a.went.room.keeper a.went.after.keeper a.went.opened.calm a.went.same a.went.same_side (a.reported.store_faults.failed is);
       }
 
+  taken : (caller : Bytes) → IsImportOf disk clock source sink log log' side side' i i' o o' c c' status caller → IsServed Before Now status
+  taken caller (inl not) = not_opened not.why
+  taken caller (inr a) = import_served disk clock source sink caller log side a.went.room a.went.after c c' i i' o o' status a.went.opened log' side' a.went.same a.went.same_side a.imported
+
+  packaged : (caller : Bytes) (number : ℕ) → IsPackageOf disk clock source sink log log' side side' i i' o o' c c' status caller number → IsServed Before Now status
+  packaged caller number (inl not) = not_opened not.why
+  packaged caller number (inr a) = package_served disk clock source sink caller number log side a.went.room a.went.after c c' i i' o o' status a.went.opened log' side' a.went.same a.went.same_side a.published
+
   drained : {L : Type 0} (link : LinkMeaning L) (l l' : List L) → IsDrain disk clock sink log log' side side' o o' c c' status link l l' → IsServed Before Now status
   drained link l l' (inl not) = not_opened not.why.why
   drained link l l' (inr a) = record {
@@ -147,7 +164,11 @@ module _ {D O S C : Type 0} (disk : DiskMeaning D) (clock : ClockMeaning C) (sou
   serves link l l' (Some Drain) did = drained link l l' did.1
   serves link l l' (Some (Receive name)) did = tt
   serves link l l' (Some (Drill stories seed)) did = tt
-  serves link l l' (Some Check) did = elim did.1 [ inl not ↦ not_opened not | inr done ↦ check_served sink o o' Before Now status done.opened.history done.told ]
+  serves link l l' (Some Check) did = elim did.1 [ inl not ↦ not_opened not | inr done ↦ answer_served sink o o' Before Now status (check_line done.opened.history) done.told ]
+  serves link l l' (Some (Archive page query)) did = elim did.1 [ inl not ↦ not_opened not | inr done ↦ asked_served sink o o' Before Now status done.opened.history page query done.told ]
+  serves link l l' (Some (Contents publication)) did = elim did.1 [ inl not ↦ not_opened not | inr done ↦ answer_served sink o o' Before Now status (contents_report done.opened.history done.opened.store publication) done.told ]
+  serves link l l' (Some (Import caller)) did = taken caller did
+  serves link l l' (Some (Package caller number)) did = packaged caller number did
   serves link l l' (Some Pack) did = elim did.1 [
     | inl not ↦ not_opened not
     | inr either ↦ elim either [
