@@ -15,9 +15,7 @@ ghost use Rattle.command_words.specs.declared.words.Job.TheVariants.{Drain};
 
 use crate::archive::ask_archive;
 use crate::check::check_line;
-use crate::import::take_table;
 use crate::pack::tell_packed;
-use crate::package::take_package;
 use crate::telling::{tell_trouble, tell_usage};
 use command_words::{Job, read_words};
 use feed_drill::run_drill;
@@ -81,10 +79,6 @@ fn do_job<S: Source, O: Sink, D: Disk, C: Clock, L: Link>(
         Job::Batch => batch(alloc, input, output, log, side, clock),
         Job::Ingest { format, provider } => {
             ingest(alloc, input, output, log, side, clock, format, provider)
-        }
-        Job::Import(caller) => take_table(alloc, input, output, log, side, clock, caller),
-        Job::Package { caller, number } => {
-            take_package(alloc, input, output, log, side, clock, caller, number)
         }
         Job::Feed { subscriber, after } => feed(alloc, output, log, side, clock, subscriber, after),
         Job::Queue => queue(alloc, output, log, side, clock),

@@ -4,9 +4,7 @@
 mod archive;
 mod check;
 mod command;
-mod import;
 mod pack;
-mod package;
 mod telling;
 
 pub use command::run;

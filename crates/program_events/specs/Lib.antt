@@ -3,7 +3,5 @@ pub mod Turns
 pub mod Stories
 pub mod Leads
 pub mod Drains
-pub mod Packages
-pub mod Imports
 pub mod Runs
 pub mod Chains
