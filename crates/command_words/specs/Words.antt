@@ -9,7 +9,7 @@ use Rattle.news_types.specs.declared.words.Format.{Format}
 use Rattle.news_types.specs.declared.words.Format.TheVariants.{Ninjs, Text7901}
 use Rattle.news_types.specs.Names.{Bytes, same, is_name}
 use Rattle.command_words.specs.declared.words.Job.{Job}
-use Rattle.command_words.specs.declared.words.Job.TheVariants.{Init, Batch, Ingest, Feed, Queue, Drain, Receive, Drill, Check, Pack}
+use Rattle.command_words.specs.declared.words.Job.TheVariants.{Init, Batch, Ingest, Feed, Queue, Archive, Drain, Receive, Drill, Check, Pack}
 use Rattle.command_words.specs.declared.options.Options.{Options}
 use Rattle.command_words.specs.declared.serving.Serving.{Serving}
 
@@ -29,13 +29,6 @@ short_job verb =
 -- the name that a word is
 abbrev pub name_of : Bytes → Option Bytes
 name_of word = if is_name word then Some word else None
-
--- of three words
-abbrev pub long_job : Bytes → Bytes → Option Job
-long_job verb word =
-    if same verb (codes "init") then option_map Init (parsed word)
-    else (if same verb (codes "receive") then option_map Receive (name_of word)
-    else None)
 
 -- the format of what comes in
 abbrev pub format_of : Bytes → Option Format
@@ -65,17 +58,30 @@ number_of word = if is_decimal word && (nat_lt 0 (length word) && nat_lt (digits
 abbrev pub seed_of : Bytes → Option ℕ
 seed_of word = if is_decimal word && (nat_lt 0 (length word) && nat_lt (digits_value 10 word) 18446744073709551616) then Some (digits_value 10 word) else None
 
+-- of three words
+abbrev pub long_job : Bytes → Bytes → Option Job
+long_job verb word =
+    if same verb (codes "init") then option_map Init (parsed word)
+    else (if same verb (codes "receive") then option_map Receive (name_of word)
+    else None)
+
 -- to report a subscriber's feed behind its first entries, so many
 abbrev pub feed_of : Option Bytes → Option ℕ → Option Job
 feed_of (Some subscriber) (Some after) = Some (Feed subscriber after)
 feed_of subscriber after = None
+
+-- to tell what a query finds behind so many pages; a query is any word
+abbrev pub archive_of : Option ℕ → Bytes → Option Job
+archive_of (Some page) query = Some (Archive page query)
+archive_of None query = None
 
 -- of four words
 abbrev pub wide_job : Bytes → Bytes → Bytes → Option Job
 wide_job verb first second =
     if same verb (codes "ingest") then ingest_of (format_of first) (name_of second)
     else (if same verb (codes "feed") then feed_of (name_of first) (number_of second)
-    else None)
+    else (if same verb (codes "archive") then archive_of (number_of first) second
+    else None))
 
 -- one of these pairs has this name
 abbrev pub names : List Bytes → Bytes → Bool
@@ -108,9 +114,8 @@ job_by verb (word ∷ []) = long_job verb word
 job_by verb (first ∷ second ∷ []) = wide_job verb first second
 job_by verb words = None
 
--- `init STORE UUID`, `batch STORE`, `ingest STORE FORMAT PROVIDER`, `feed STORE SUBSCRIBER AFTER`, `queue STORE`, `drain STORE` with
--- pairs of a NAME and an ADDRESS, `receive STORE NAME`, `check STORE`, `pack STORE` and `drill N SEED`; a store and an address are any words
--- but an option
+-- `init STORE UUID`, `batch STORE`, `ingest STORE FORMAT PROVIDER`, `feed STORE SUBSCRIBER AFTER`, `queue STORE`,
+-- `archive STORE PAGE QUERY`, `drain STORE` with pairs of a NAME and an ADDRESS, `receive STORE NAME`, `check STORE`, `pack STORE` and `drill N SEED`; a store and an address are any words but an option
 abbrev pub job_of : List Bytes → Option Job
 job_of (verb ∷ first ∷ words) =
     if is_option first then None

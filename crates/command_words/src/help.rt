@@ -24,6 +24,10 @@ const QUEUE: &str =
     "newsdesk queue STORE                    release what waits, and write how far each subscriber's feed is acknowledged
 ";
 
+const ARCHIVE: &str =
+    "newsdesk archive STORE PAGE QUERY       write how many publications a query finds, and a line for each of a page of 100, counted from 0
+";
+
 const DRAIN: &str =
     "newsdesk drain STORE NAME ADDRESS ..    send what is due to these receivers, each with its host and port, until nothing is
 ";
@@ -52,8 +56,8 @@ const TAIL: &str = "newsdesk --help                         say this
 newsdesk COMMAND --help                 say the line of one command
 newsdesk --version                      say the version
 
-Options stand directly behind COMMAND: with --wait it waits for a STORE that another program has, `check --beside STORE` reads one
-that is being served, and `serve --key FILE STORE ..` answers only who sends the first line of FILE as the header X-Key.
+Options stand directly behind COMMAND: with --wait it waits for a STORE that another program has, with --beside check and archive
+read one that is being served, and `serve --key FILE STORE ..` answers only who sends the first line of FILE as the header X-Key.
 
 A line of `batch` is a request, as
   {\"by\":\"admin\",\"number\":1,\"do\":\"add_subscriber\",\"subscriber\":\"alpha\",\"format\":\"ninjs\",\"products\":[\"all\"]}
@@ -68,9 +72,10 @@ to the output too, as {\"status\":7} with the place of the damage.
 ";
 
 /// How the program is used, for `--help`: texts, to be written one behind the other. Each command has a line.
-pub fn help_texts() -> [&'static str; 13] {
+pub fn help_texts() -> [&'static str; 14] {
     [
-        HEAD, INIT, BATCH, INGEST, FEED, QUEUE, DRAIN, SERVE, RECEIVE, CHECK, PACK, DRILL, TAIL,
+        HEAD, INIT, BATCH, INGEST, FEED, QUEUE, ARCHIVE, DRAIN, SERVE, RECEIVE, CHECK, PACK, DRILL,
+        TAIL,
     ]
 }
 
@@ -82,6 +87,7 @@ pub fn command_help(command: &str) -> Option<&'static str> {
         "ingest" => Some(INGEST),
         "feed" => Some(FEED),
         "queue" => Some(QUEUE),
+        "archive" => Some(ARCHIVE),
         "drain" => Some(DRAIN),
         "serve" => Some(SERVE),
         "receive" => Some(RECEIVE),

@@ -5,9 +5,10 @@ ghost use Rattle.std.specs.List.{list_all};
 ghost use Rattle.std.specs.Option.{option_map};
 ghost use Rattle.uuid.specs.Text.{parsed};
 ghost use Rattle.command_words.specs.declared.words.Job.TheVariants.{Init, Receive};
-ghost use Rattle.command_words.specs.Words.{drill_of, feed_of, format_of, ingest_of, job_of, name_of, number_of, seed_of};
+ghost use Rattle.command_words.specs.Words.{archive_of, drill_of, feed_of, format_of, ingest_of, job_of, name_of, number_of, seed_of};
 ghost use Rattle.command_words.specs.Words as spec;
 
+use crate::word::Word;
 use news_types::{Format, Name, Text};
 use uuid::Uuid;
 
@@ -15,8 +16,8 @@ use uuid::Uuid;
 const MOST_STORIES: u32 = 100_000;
 
 /// What a command line asks for.
-#[derive(Clone, Copy, PartialEq, Eq)]
-pub enum Job {
+#[derive(Drop)]
+pub enum Job<'a> {
     /// To make an empty log for the store of this identifier.
     Init(Uuid),
     /// To answer the lines of the input.
@@ -27,6 +28,8 @@ pub enum Job {
     Feed { subscriber: Name, after: u32 },
     /// To release what waits, and report all feeds.
     Queue,
+    /// To tell which publications the query finds, behind so many pages.
+    Archive { page: u32, query: Word<'a> },
     /// To push what is due over the links to receivers.
     Drain,
     /// To take the frames of the input as the receiver of this name.
@@ -40,7 +43,7 @@ pub enum Job {
 }
 
 /// What these words ask for, if they are a command.
-pub fn read_words(words: &[Text]) -> Option<Job>
+pub fn read_words(words: &[Text]) -> Option<Job<'_>>
     ensures { result ≡ job_of words.now }
 {
     let [verb, first, rest @ ..] = words else {
@@ -66,19 +69,19 @@ pub(crate) fn is_option(word: &str) -> bool
 }
 
 /// What this word, a store and up to two words more ask for.
-fn job_by(verb: &str, words: &[Text]) -> Option<Job>
+fn job_by<'a>(verb: &str, words: &'a [Text]) -> Option<Job<'a>>
     ensures { result ≡ spec.job_by verb.now words.now }
 {
     match words {
         [] => short_job(verb),
         [word] => long_job(verb, word.as_str()),
-        [first, second] => wide_job(verb, first.as_str(), second.as_str()),
+        [first, second] => wide_job(verb, first.as_str(), second),
         _ => None,
     }
 }
 
 /// To push what is due, if these are the names of receivers and their addresses by turns, no name twice.
-fn drain_job(pairs: &[Text]) -> Option<Job>
+fn drain_job<'a>(pairs: &[Text]) -> Option<Job<'a>>
     ensures { result ≡ spec.drain_job pairs.now }
 {
     if are_pairs(pairs) {
@@ -115,7 +118,7 @@ fn names(pairs: &[Text], name: &Text) -> bool
 }
 
 /// To drill so many stories with a seed, if these are the two numbers.
-fn drill_job(stories: &str, words: &[Text]) -> Option<Job>
+fn drill_job<'a>(stories: &str, words: &[Text]) -> Option<Job<'a>>
     ensures { result ≡ spec.drill_job stories.now words.now }
 {
     match words {
@@ -125,7 +128,7 @@ fn drill_job(stories: &str, words: &[Text]) -> Option<Job>
 }
 
 /// To drill so many stories with this seed, if the words are numbers, and the first one from 1 to 100000.
-fn drill_by(stories: &str, seed: &str) -> Option<Job>
+fn drill_by<'a>(stories: &str, seed: &str) -> Option<Job<'a>>
     ensures { result ≡ drill_of (number_of stories.now) (seed_of seed.now) }
 {
     let stories = read_number(stories)?;
@@ -137,7 +140,7 @@ fn drill_by(stories: &str, seed: &str) -> Option<Job>
 }
 
 /// What this word and a store ask for.
-fn short_job(verb: &str) -> Option<Job>
+fn short_job<'a>(verb: &str) -> Option<Job<'a>>
     ensures { result ≡ spec.short_job verb.now }
 {
     match verb {
@@ -150,7 +153,7 @@ fn short_job(verb: &str) -> Option<Job>
 }
 
 /// What this word, a store and one word more ask for.
-fn long_job(verb: &str, word: &str) -> Option<Job>
+fn long_job<'a>(verb: &str, word: &str) -> Option<Job<'a>>
     ensures { result ≡ spec.long_job verb.now word.now }
 {
     if verb == "init" {
@@ -163,7 +166,7 @@ fn long_job(verb: &str, word: &str) -> Option<Job>
 }
 
 /// To make a log for the store that this identifies, if it does.
-fn init_job(identifier: &str) -> Option<Job>
+fn init_job<'a>(identifier: &str) -> Option<Job<'a>>
     ensures { result ≡ option_map Init (parsed identifier.now) }
 {
     match Uuid::parse_str(identifier) {
@@ -173,25 +176,26 @@ fn init_job(identifier: &str) -> Option<Job>
 }
 
 /// To take frames as the receiver of this name, if it is one.
-fn receive_job(name: &str) -> Option<Job>
+fn receive_job<'a>(name: &str) -> Option<Job<'a>>
     ensures { result ≡ option_map Receive (name_of name.now) }
 {
     Some(Job::Receive(Name::read(name)?))
 }
 
 /// What this word, a store and two words more ask for.
-fn wide_job(verb: &str, first: &str, second: &str) -> Option<Job>
+fn wide_job<'a>(verb: &str, first: &str, second: &'a Text) -> Option<Job<'a>>
     ensures { result ≡ spec.wide_job verb.now first.now second.now }
 {
     match verb {
-        "ingest" => ingest_job(first, second),
-        "feed" => feed_job(first, second),
+        "ingest" => ingest_job(first, second.as_str()),
+        "feed" => feed_job(first, second.as_str()),
+        "archive" => archive_job(first, second),
         _ => None,
     }
 }
 
 /// To take in what comes in this format from this provider, if they are a format and a name.
-fn ingest_job(format: &str, provider: &str) -> Option<Job>
+fn ingest_job<'a>(format: &str, provider: &str) -> Option<Job<'a>>
     ensures { result ≡ ingest_of (format_of format.now) (name_of provider.now) }
 {
     Some(Job::Ingest {
@@ -201,12 +205,22 @@ fn ingest_job(format: &str, provider: &str) -> Option<Job>
 }
 
 /// To report this subscriber's feed behind so many entries, if they are a name and a number.
-fn feed_job(subscriber: &str, after: &str) -> Option<Job>
+fn feed_job<'a>(subscriber: &str, after: &str) -> Option<Job<'a>>
     ensures { result ≡ feed_of (name_of subscriber.now) (number_of after.now) }
 {
     Some(Job::Feed {
         subscriber: Name::read(subscriber)?,
         after: read_number(after)?,
+    })
+}
+
+/// To tell what this query finds behind so many pages, if the first word is a number.
+fn archive_job<'a>(page: &str, query: &'a Text) -> Option<Job<'a>>
+    ensures { result ≡ archive_of (number_of page.now) query.now }
+{
+    Some(Job::Archive {
+        page: read_number(page)?,
+        query: Word::of(query),
     })
 }
 

@@ -3,7 +3,8 @@
 //! - `= new` ends the command before it, and begins a new store.
 //! - `@ M` ends the command before it; from here on the clock shows M, in seconds since 1970-01-01T00:00:00Z.
 //! - `# text` ends the command before it, and is printed as it is.
-//! - `$ WORDS` ends the command before it, and begins one of these words; `$ ` alone begins one without a word.
+//! - `$ WORDS` ends the command before it, and begins one of these words; `$ ` alone begins one without a word. The last word stands
+//!   between `'` where it has spaces.
 //! - `% TEXT` adds the bytes of a text to the command's input, in which `\` and two hexadecimal digits stand for a byte; `* N TEXT`
 //!   adds them N times.
 //! - `log TEXT` and `side TEXT` end the command before them; from here on the store's log, or its side, has the bytes of the text.
@@ -245,17 +246,28 @@ fn disk_of(alloc: Global, bytes: &[u8]) -> io::Result<MemoryDisk> {
     }
 }
 
-/// The words of a line, with one space between them; none where it is empty.
+/// The words of a line, with one space between them; none where it is empty. Between `'` the last word may have spaces.
 fn words_of(alloc: Global, line: &str) -> io::Result<Vec<Text>> {
     let mut words = Vec::new(alloc);
     if line.is_empty() {
         return Ok(words);
     }
-    for word in line.split(' ') {
-        let Ok(word) = Text::copy_of(alloc, word) else {
-            return Err(io::Error::from(ErrorKind::OutOfMemory));
-        };
-        words.push(word)?;
+    let (plain, quoted) = match line.split_once(" '") {
+        Some((plain, quoted)) => (plain, quoted.strip_suffix("'")),
+        None => (line, None),
+    };
+    for word in plain.split(' ') {
+        words.push(word_of(alloc, word)?)?;
+    }
+    if let Some(word) = quoted {
+        words.push(word_of(alloc, word)?)?;
     }
     Ok(words)
+}
+
+fn word_of(alloc: Global, word: &str) -> io::Result<Text> {
+    match Text::copy_of(alloc, word) {
+        Ok(word) => Ok(word),
+        Err(Memory) => Err(io::Error::from(ErrorKind::OutOfMemory)),
+    }
 }

@@ -26,10 +26,10 @@ pub enum Keeping {
 }
 
 /// What this command does with its store.
-pub fn keeping_of(job: Job) -> Keeping {
+pub fn keeping_of(job: Job<'_>) -> Keeping {
     match job {
         Job::Drill { .. } => Keeping::Nothing,
-        Job::Check => Keeping::Reads,
+        Job::Check | Job::Archive { .. } => Keeping::Reads,
         Job::Pack => Keeping::Packs,
         Job::Init(_) => Keeping::Makes,
         Job::Receive(_) => Keeping::MakesLog,

@@ -5,7 +5,7 @@ use Rattle.news_io.specs.Faults.{Counts}
 use Rattle.news_io.specs.Sink.{SinkMeaning}
 use Rattle.news_io.specs.declared.faults.Failed.{Failed}
 use Rattle.run_status.specs.Output.{AllPassed}
-use Rattle.newsdesk_cli.specs.Command.{IsWritten, IsCut}
+use Rattle.newsdesk_cli.specs.Telling.{IsWritten, IsCut}
 
 module _ {O : Type 0} (sink : SinkMeaning O) (old new : O) (bytes : List ℕ) where
   pub written_by : (r : Result (Unit {0}) Failed) → (sink.tells old → sink.tells new) → (sink.tells old → OnOk r (sink.taken new ≡ sink.taken old ++ bytes)) → (sink.tells old → OnOk r (AllPassed sink new)) → Counts (sink.faults old) (sink.faults new) r

@@ -39,19 +39,19 @@ use Rattle.store_files.specs.Trouble.{status_of, trouble_of_pack}
 use Rattle.store_files.specs.declared.trouble.Trouble.{Trouble}
 use Rattle.store_files.specs.declared.trouble.Trouble.TheVariants as trouble
 use Rattle.store_files.proofs.Serving.{served}
-use Rattle.newsdesk_cli.specs.Command.{check_line, IsServed, Serves, NotOpened, IsTold, IsChecked, HasAnswered, IsReportOf, IsDrain, Does}
+use Rattle.newsdesk_cli.specs.Archive.{IsAsked}
+use Rattle.newsdesk_cli.specs.Command.{check_line, IsServed, Serves, HasAnswered, IsReportOf, IsDrain, Does}
+use Rattle.newsdesk_cli.specs.Opened.{NotOpened}
+use Rattle.newsdesk_cli.specs.Telling.{IsTold, IsAnswered}
 use Rattle.newsdesk_cli.specs.Packing.{packed_line}
 use Rattle.command_words.specs.declared.words.Job.{Job}
-use Rattle.command_words.specs.declared.words.Job.TheVariants.{Init, Batch, Ingest, Feed, Queue, Drain, Receive, Drill, Check, Pack}
+use Rattle.command_words.specs.declared.words.Job.TheVariants.{Init, Batch, Ingest, Feed, Queue, Archive, Drain, Receive, Drill, Check, Pack}
 use Rattle.newsdesk_cli.proofs.Commands.{rose_along}
 use Rattle.newsdesk_cli.proofs.Draining.{drain_else, drain_failed}
 use Rattle.newsdesk_cli.proofs.Reporting.{reported_else}
+use Rattle.newsdesk_cli.proofs.Statuses.{others}
 
 -- ---- statuses
-
--- any other number
-others : (before now n status : ℕ) → (n ≡ 3 → ⊥) → (n ≡ 7 → ⊥) → (n ≡ 6 → Rose before now) → status ≡ n → IsServed before now status
-others before now n status own whole failed is = record { own = λ s. own (sym is ∙ s); whole = λ s. whole (sym is ∙ s); failed = λ s. failed (sym is ∙ s) }
 
 by_trouble : (t : Trouble) (before now status : ℕ) → IsNotOfBytes t → TroubleCounts before now t → status ≡ number_of (status_of t) → IsServed before now status
 by_trouble trouble.WrongStore before now status outside count is = absurd outside
@@ -83,9 +83,13 @@ module _ {O : Type 0} (sink : SinkMeaning O) (o o' : O) (before now status : ℕ
   told_served line (inl done) = others before now 0 status (λ s. absurd (omega (arith, s))) (λ s. absurd (omega (arith, s))) (λ s. absurd (omega (arith, s))) done.0
   told_served line (inr cut) = others before now 5 status (λ s. absurd (omega (arith, s))) (λ s. absurd (omega (arith, s))) (λ s. absurd (omega (arith, s))) cut.0
 
-  check_served : (h : History) → IsChecked sink h o o' status → IsServed before now status
-  check_served h (inl told) = told_served (check_line h) told
-  check_served h (inr stopped) = others before now 9 status (λ s. absurd (omega (arith, s))) (λ s. absurd (omega (arith, s))) (λ s. absurd (omega (arith, s))) stopped.status_is
+  answer_served : (line : List ℕ) → IsAnswered sink line o o' status → IsServed before now status
+  answer_served line (inl told) = told_served line told
+  answer_served line (inr stopped) = others before now 9 status (λ s. absurd (omega (arith, s))) (λ s. absurd (omega (arith, s))) (λ s. absurd (omega (arith, s))) stopped.status_is
+
+  asked_served : (h : History) (page : ℕ) (query : Bytes) → IsAsked sink h page query o o' status → IsServed before now status
+  asked_served h page query (inl answer) = told_served answer.0 answer.2
+  asked_served h page query (inr stopped) = others before now 9 status (λ s. absurd (omega (arith, s))) (λ s. absurd (omega (arith, s))) (λ s. absurd (omega (arith, s))) stopped.status_is
 
 module _ {D O S C : Type 0} (disk : DiskMeaning D) (clock : ClockMeaning C) (source : SourceMeaning S) (sink : SinkMeaning O)
     (log log' side side' : D) (i i' : S) (o o' : O) (c c' : C) (status : ℕ)
@@ -147,7 +151,8 @@ module _ {D O S C : Type 0} (disk : DiskMeaning D) (clock : ClockMeaning C) (sou
   serves link l l' (Some Drain) did = drained link l l' did.1
   serves link l l' (Some (Receive name)) did = tt
   serves link l l' (Some (Drill stories seed)) did = tt
-  serves link l l' (Some Check) did = elim did.1 [ inl not ↦ not_opened not | inr done ↦ check_served sink o o' Before Now status done.opened.history done.told ]
+  serves link l l' (Some Check) did = elim did.1 [ inl not ↦ not_opened not | inr done ↦ answer_served sink o o' Before Now status (check_line done.opened.history) done.told ]
+  serves link l l' (Some (Archive page query)) did = elim did.1 [ inl not ↦ not_opened not | inr done ↦ asked_served sink o o' Before Now status done.opened.history page query done.told ]
   serves link l l' (Some Pack) did = elim did.1 [
     | inl not ↦ not_opened not
     | inr either ↦ elim either [

@@ -1,5 +1,5 @@
 -- What each command does to the log, its side and the output, and with which status it ends.
-use Rattle.std.specs.Prelude.{◌≡◌, ◌⊎◌, ◌≤◌, ℕ, ◌+◌, Bool, true, List, [], ◌∷◌, ◌++◌, length, take, Option, Some, None}
+use Rattle.std.specs.Prelude.{◌≡◌, ◌⊎◌, ◌≤◌, ℕ, ◌+◌, Bool, true, List, [], ◌∷◌, ◌++◌, length, Option, Some, None}
 use Rattle.news_types.specs.declared.query.Query.TheVariants as query
 use Rattle.news_types.specs.declared.words.Format.{Format}
 use Rattle.news_types.specs.Books.{Book}
@@ -14,7 +14,7 @@ use Rattle.news_io.specs.Disk.{DiskMeaning, LeavesOnly}
 use Rattle.news_io.specs.Link.{LinkMeaning}
 use Rattle.news_io.specs.Sink.{SinkMeaning}
 use Rattle.news_io.specs.Source.{SourceMeaning}
-use Rattle.run_status.specs.Output.{Wrote, AllPassed, Told}
+use Rattle.run_status.specs.Output.{Told}
 use Rattle.line_run.specs.Status.{IsComplete}
 use Rattle.desk_answers.specs.Answers.{answer_bytes}
 use Rattle.entry_codec.specs.Spelling.{entry_bytes}
@@ -30,7 +30,9 @@ use Rattle.news_pair.specs.Stands.{log_disk, side_disk}
 use Rattle.news_room.specs.declared.room.Room.{Room}
 use Rattle.room_runs.specs.Batch.{InputAnswered}
 use Rattle.room_runs.specs.Wires.{IngestAnswered}
-use Rattle.newsdesk_cli.specs.FilesLeft.{FilesLeft}
+use Rattle.newsdesk_cli.specs.Telling.{IsStopped, IsTold, IsAnswered, IsRefusedUse}
+use Rattle.newsdesk_cli.specs.Opened.{NotOpened, IsLook, HasGoneOn, NotBegun}
+use Rattle.newsdesk_cli.specs.Archive.{IsArchive}
 use Rattle.room_runs.specs.Lines.{no_frames, LONGEST_INPUT}
 use Rattle.room_reports.specs.Reports.{feed_report_at, queue_report_at, IsReport}
 use Rattle.feed_drill.specs.Drill.{Drills}
@@ -41,69 +43,26 @@ use Rattle.receiver_files.specs.Log.{Gives}
 use Rattle.receiver_files.specs.Receive as receiver
 use Rattle.receiver_files.specs.Receive.{IsReceive}
 use Rattle.store_files.specs.Files.{FilesHold, CrashKeeps}
-use Rattle.store_files.specs.Store.{IsRefused, IsOpenRoom}
+use Rattle.store_files.specs.Store.{IsOpenRoom}
 use Rattle.run_status.specs.Status.{number_of, line_of}
 use Rattle.run_status.specs.declared.status.Status.{Status}
-use Rattle.run_status.specs.declared.status.Status.TheVariants.{Usage}
-use Rattle.store_files.specs.Trouble.{status_of, trouble_of_pack}
-use Rattle.store_files.specs.declared.trouble.Trouble.{Trouble}
+use Rattle.store_files.specs.Trouble.{trouble_of_pack}
 use Rattle.store_files.specs.declared.trouble.Trouble.TheVariants as trouble
 use Rattle.command_words.specs.declared.words.Job.{Job}
-use Rattle.command_words.specs.declared.words.Job.TheVariants.{Init, Batch, Ingest, Feed, Queue, Drain, Receive, Drill, Check, Pack}
+use Rattle.command_words.specs.declared.words.Job.TheVariants.{Init, Batch, Ingest, Feed, Queue, Archive, Drain, Receive, Drill, Check, Pack}
 
 -- how many entries and publications a list has, as a line
 abbrev pub check_line : History → List ℕ
 check_line h = answer_bytes (query_answer no_frames h query.Check) ++ 10 ∷ []
 
-module _ {O : Type 0} (sink : SinkMeaning O) where
-  -- all of it was written and has passed on, and the output did not fail
-  pub record IsWritten (old new : O) (line : List ℕ) : Type 0 where
-    pub wrote : Wrote sink old new line
-    pub passed : sink.tells old → AllPassed sink new
-    pub calm : sink.faults new ≡ sink.faults old
-
-  -- the first of it was written, and the output has failed
-  pub record IsCut (old new : O) (line : List ℕ) : Type 0 where
-    pub count : ℕ
-    pub wrote : Wrote sink old new (take count line)
-    pub rose : Rose (sink.faults old) (sink.faults new)
-
-  -- the status, and the line that tells it
-  pub record IsStopped (t : Trouble) (old new : O) (status : ℕ) : Type 0 where
-    pub status_is : status ≡ number_of (status_of t)
-    pub line : Told sink old new (line_of (status_of t))
-
-  -- an answer's line was written; or the first of it, where the output has failed
-  abbrev pub IsTold : List ℕ → O → O → ℕ → Type 0
-  IsTold line old new status = ((status ≡ 0) × IsWritten old new line) ⊎ ((status ≡ 5) × IsCut old new line)
-
-  -- what `check` answers of a list: its line; or there was no memory
-  abbrev pub IsChecked : History → O → O → ℕ → Type 0
-  IsChecked h old new status = IsTold (check_line h) old new status ⊎ IsStopped trouble.Memory old new status
-
-  -- the words are no command
-  pub record IsRefusedUse (old new : O) (status : ℕ) : Type 0 where
-    pub status_is : status ≡ number_of Usage
-    pub line : Told sink old new (line_of Usage)
+-- what `check` tells of a list
+abbrev pub IsChecked : {O : Type 0} → SinkMeaning O → History → O → O → ℕ → Type 0
+IsChecked sink h o o' status = IsAnswered sink (check_line h) o o' status
 
 module _ {D O : Type 0} (disk : DiskMeaning D) (sink : SinkMeaning O) (log log' side side' : D) (o o' : O) (status : ℕ) where
-  -- the files do not serve
-  pub record NotOpened : Type 0 where
-    pub why : Trouble
-    pub refused : IsRefused disk log side log' side' why
-    pub stopped : IsStopped sink why o o' status
-
-  -- the files were opened and their list told, and they hold it as before
-  pub record HasChecked : Type 0 where
-    pub room : Room (Pair D)
-    pub opened : IsOpenRoom disk log side room
-    pub same : log' ≡ log_disk room.keeper
-    pub same_side : side' ≡ side_disk room.keeper
-    pub files : disk.tells log → disk.tells side → FilesHold disk log' side' opened.store opened.history
-    pub told : IsChecked sink opened.history o o' status
-
+  -- the list of the files is told
   abbrev pub IsCheck : Type 0
-  IsCheck = NotOpened ⊎ HasChecked
+  IsCheck = IsLook disk sink log log' side side' o o' status (λ store h. IsChecked sink h o o' status)
 
   -- the files were opened and packed, and the number of their entries told
   pub record HasPacked : Type 0 where
@@ -130,26 +89,10 @@ module _ {D O : Type 0} (disk : DiskMeaning D) (sink : SinkMeaning O) (log log' 
     pub stopped : IsStopped sink (trouble_of_pack why) o o' status
 
   abbrev pub IsPack : Type 0
-  IsPack = NotOpened ⊎ (HasPacked ⊎ HasNotPacked)
-
-module _ {D : Type 0} (disk : DiskMeaning D) (log log' side side' : D) (status : ℕ) where
-  -- the files were opened as a room, and are left by the room behind all that was done with it
-  pub record HasGoneOn : Type 0 where
-    pub room : Room (Pair D)
-    pub opened : IsOpenRoom disk log side room
-    pub after : Room (Pair D)
-    pub same : log' ≡ log_disk after.keeper
-    pub same_side : side' ≡ side_disk after.keeper
-    pub files : disk.tells log → disk.tells side → FilesLeft disk log side opened.store room after opened.history status
+  IsPack = NotOpened disk sink log log' side side' o o' status ⊎ (HasPacked ⊎ HasNotPacked)
 
 module _ {D O S C : Type 0} (disk : DiskMeaning D) (clock : ClockMeaning C) (source : SourceMeaning S) (sink : SinkMeaning O)
     (log log' side side' : D) (i i' : S) (o o' : O) (c c' : C) (status : ℕ) where
-  -- the files do not serve, and nothing was read
-  pub record NotBegun : Type 0 where
-    pub why : NotOpened disk sink log log' side side' o o' status
-    pub input_same : i' ≡ i
-    pub clock_same : c' ≡ c
-
   -- the input was answered from the list of the files on: from a room to the room behind it, at a book
   pub record HasAnswered (Answered : Room (Pair D) → Room (Pair D) → Book → Type 0) : Type 0 where
     pub went : HasGoneOn disk log log' side side' status
@@ -160,11 +103,11 @@ module _ {D O S C : Type 0} (disk : DiskMeaning D) (clock : ClockMeaning C) (sou
 
   -- the lines of the input were answered
   abbrev pub IsBatch : Type 0
-  IsBatch = NotBegun ⊎ HasAnswered (λ room after b. InputAnswered (pair_of disk) clock source sink room after c c' i i' o o' b 65 status)
+  IsBatch = NotBegun disk sink log log' side side' i i' o o' c c' status ⊎ HasAnswered (λ room after b. InputAnswered (pair_of disk) clock source sink room after c c' i i' o o' b 65 status)
 
   -- the stories of the input, in this format, came in from a provider
   abbrev pub IsIngest : Format → Bytes → Type 0
-  IsIngest format provider = NotBegun ⊎ HasAnswered (λ room after b. IngestAnswered (pair_of disk) clock source sink provider format room after c c' i i' o o' b 65 status)
+  IsIngest format provider = NotBegun disk sink log log' side side' i i' o o' c c' status ⊎ HasAnswered (λ room after b. IngestAnswered (pair_of disk) clock source sink provider format room after c c' i i' o o' b 65 status)
 
 module _ {D O C : Type 0} (disk : DiskMeaning D) (clock : ClockMeaning C) (sink : SinkMeaning O)
     (log log' side side' : D) (o o' : O) (c c' : C) (status : ℕ) where
@@ -264,6 +207,7 @@ module _ {D O S C L : Type 0} (disk : DiskMeaning D) (clock : ClockMeaning C) (s
   Does None = Unread × IsUsage
   Does (Some (Init store)) = Unread × IsInit disk sink store log log' side side' o o' status
   Does (Some Check) = Unread × IsCheck disk sink log log' side side' o o' status
+  Does (Some (Archive page query)) = Unread × IsArchive disk sink page query log log' side side' o o' status
   Does (Some Pack) = Unread × IsPack disk sink log log' side side' o o' status
   Does (Some Batch) = IsBatch disk clock source sink log log' side side' i i' o o' c c' status
   Does (Some (Feed subscriber after)) = (i' ≡ i) × IsReportOf disk clock sink log log' side side' o o' c c' status (feed_report_at subscriber after)
@@ -287,6 +231,7 @@ Serves before now (Some Batch) status = IsServed before now status
 Serves before now (Some (Ingest format provider)) status = IsServed before now status
 Serves before now (Some (Feed subscriber after)) status = IsServed before now status
 Serves before now (Some Queue) status = IsServed before now status
+Serves before now (Some (Archive page query)) status = IsServed before now status
 Serves before now (Some Drain) status = IsServed before now status
 Serves before now (Some (Receive name)) status = Unit {0}
 Serves before now (Some (Drill stories seed)) status = Unit {0}

@@ -13,6 +13,7 @@ ghost use Rattle.command_words.specs.Words.{job_of};
 ghost use Rattle.newsdesk_cli.specs.Command.{IsInit, IsBatch, IsIngest, IsReportOf, IsDrain, IsDrilled, IsCheck, IsPack, Does, Serves, ReceiverServes};
 ghost use Rattle.command_words.specs.declared.words.Job.TheVariants.{Drain};
 
+use crate::archive::ask_archive;
 use crate::check::check_line;
 use crate::pack::tell_packed;
 use crate::telling::{tell_trouble, tell_usage};
@@ -61,7 +62,7 @@ pub fn run<S: Source, O: Sink, D: Disk, C: Clock, L: Link>(
 #[tactic(none)]
 fn do_job<S: Source, O: Sink, D: Disk, C: Clock, L: Link>(
     alloc: Global,
-    job: Job,
+    job: Job<'_>,
     input: &mut S,
     output: &mut O,
     log: D,
@@ -81,6 +82,7 @@ fn do_job<S: Source, O: Sink, D: Disk, C: Clock, L: Link>(
         }
         Job::Feed { subscriber, after } => feed(alloc, output, log, side, clock, subscriber, after),
         Job::Queue => queue(alloc, output, log, side, clock),
+        Job::Archive { page, query } => ask_archive(alloc, output, log, side, page, query),
         Job::Drain => drain(alloc, output, log, side, clock, links),
         Job::Receive(name) => receive(alloc, input, output, log, side, name),
         Job::Drill { stories, seed } => drill(alloc, output, log, side, clock, stories, seed),

@@ -1,6 +1,7 @@
 //! The calls of the program: what a command line does, over the input, the output, the files and the clock that it is given.
 #![tactic(auto)]
 
+mod archive;
 mod check;
 mod command;
 mod pack;

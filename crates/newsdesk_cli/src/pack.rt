@@ -1,6 +1,6 @@
 //! What is told of a log and its side that are packed.
 ghost use Rattle.std.specs.Prelude.{◌≡◌};
-ghost use Rattle.newsdesk_cli.specs.Command.{IsTold};
+ghost use Rattle.newsdesk_cli.specs.Telling.{IsTold};
 ghost use Rattle.newsdesk_cli.specs.Packing.{packed_line as line_of_count};
 
 use crate::telling::tell_answer;

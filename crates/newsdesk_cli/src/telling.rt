@@ -1,6 +1,6 @@
 //! What a command tells at its end, with its status.
 ghost use Rattle.std.specs.Prelude.{◌≡◌, OnOk, OnErr};
-ghost use Rattle.newsdesk_cli.specs.Command.{IsWritten, IsCut, IsTold, IsStopped, IsRefusedUse};
+ghost use Rattle.newsdesk_cli.specs.Telling.{IsWritten, IsCut, IsTold, IsStopped, IsRefusedUse};
 
 use news_io::{Failed, Sink, write_through};
 use run_status::{Status, tell_status};

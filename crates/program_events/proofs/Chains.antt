@@ -24,12 +24,13 @@ use Rattle.room_runs.specs.Wires.{IngestAnswered}
 use Rattle.store_files.specs.Files.{Files, OpenTo, OpenAlike, MayLeave, LeftSince}
 use Rattle.world_laws.specs.World.{World, Event, Reopens, opening, reopened, happens, run}
 use Rattle.world_laws.proofs.Headline.{headline_holds}
-use Rattle.newsdesk_cli.specs.Command.{HasGoneOn, HasAnswered, HasReported, HasDrained}
+use Rattle.newsdesk_cli.specs.Command.{HasAnswered, HasReported, HasDrained}
+use Rattle.newsdesk_cli.specs.Opened.{IsLook, HasGoneOn}
 use Rattle.newsdesk_cli.specs.FilesLeft.{NoneInDoubt, FilesLeft}
 use Rattle.program_events.specs.Events.{line_input}
 use Rattle.program_events.specs.Stories.{wire_input, item_input}
 use Rattle.program_events.specs.Leads.{IsBegunOf, LeadsOn}
-use Rattle.program_events.specs.Chains.{Did, Init, Batch, Ingest, Feed, Queue, Drain, Check, Pack, Run, LeftByRun, MayCrash, IsLeftBy, AreLeft, FollowOneAnother, world, AreOfGoing, Answers, Reports, Pushes, AreOfRun, AreOfRuns, ComesTo, ChainsAreEvents}
+use Rattle.program_events.specs.Chains.{Did, Init, Batch, Ingest, Feed, Queue, Drain, Check, Archive, Pack, Run, LeftByRun, MayCrash, IsLeftBy, AreLeft, FollowOneAnother, world, AreOfGoing, Answers, Reports, Pushes, AreOfRun, AreOfRuns, ComesTo, ChainsAreEvents}
 use Rattle.program_events.proofs.Turns.{run_on}
 use Rattle.program_events.proofs.Draining.{drain_happened}
 use Rattle.program_events.proofs.Reports.{report_happened}
@@ -178,6 +179,29 @@ module _ {D S O C L : Type 0} (disk : DiskMeaning D) (clock : ClockMeaning C) (s
           headline = c.headline;
         }
 
+    -- ---- a run that only looks at its store, which is no event
+
+    looked_now : {Told : Bytes → History → Type 0} → ((write : Writer) (events : List Event) → AreOfRun disk clock source sink link write events r r.did events) → IsLook disk sink r.log r.log' r.side r.side' r.output r.output' r.status Told
+        → (files : Files) → MayLeave disk r.log' r.side' files → Comes (r ∷ runs) files
+    looked_now no_event (inl refused) files may =
+        as_before no_event files
+        (refused_keeps disk store long r.log r.side list r.tells r.tells_side from.opens r.log' r.side' refused.why refused.refused files (counts_since disk r.log r.log' (refused.refused.crash r.tells r.tells_side).later r.side' files may))
+    looked_now no_event (inr c) files may =
+        as_before no_event files (
+          (disk.seen r.log, disk.seen r.side),
+          (disk.leaves_seen r.log r.tells, disk.leaves_seen r.side r.tells_side),
+          to_both store long (disk.seen r.log, disk.seen r.side) files list c.opened.store c.opened.long c.opened.history from.opens (c.opened.bytes r.tells r.tells_side) (c.files r.tells r.tells_side files (inr may.0, inr may.1)),
+        )
+
+    looked_then : {Told : Bytes → History → Type 0} → ((write : Writer) (events : List Event) → AreOfRun disk clock source sink link write events r r.did events) → IsLook disk sink r.log r.log' r.side r.side' r.output r.output' r.status Told
+        → (files : Files) → LeftSince disk r.log' r.side' (disk.moment r.log) files → Comes (r ∷ runs) files
+    looked_then no_event (inl refused) files may =
+        as_before no_event files (refused_keeps disk store long r.log r.side list r.tells r.tells_side from.opens r.log' r.side' refused.why refused.refused files may)
+    looked_then no_event (inr c) files may =
+        as_before no_event files
+        (opened_keeps disk store long r.log r.side list r.tells r.tells_side from.opens c.room c.opened files
+        (subst (λ (d : D). disk.left_since d (disk.moment r.log) files.0) c.same may.0, subst (λ (d : D). disk.may_leave d files.1) c.same_side may.1))
+
     -- ---- files that were opened, and left otherwise
 
     module _ (a : Goes r) (Happened : Happening) (hap : HasHappened r a Happened) where
@@ -274,15 +298,8 @@ module _ {D S O C L : Type 0} (disk : DiskMeaning D) (clock : ClockMeaning C) (s
     left_now (Drain (inl refused)) is files may =
         as_before (λ v events. subst (λ (d : TheDid). AreOfRun disk clock source sink link v events r d events) (sym is) refl) files
         (refused_keeps disk store long r.log r.side list r.tells r.tells_side from.opens r.log' r.side' refused.why.why.why refused.why.why.refused files (counts_since disk r.log r.log' (refused.why.why.refused.crash r.tells r.tells_side).later r.side' files may))
-    left_now (Check (inl refused)) is files may =
-        as_before (λ v events. subst (λ (d : TheDid). AreOfRun disk clock source sink link v events r d events) (sym is) refl) files
-        (refused_keeps disk store long r.log r.side list r.tells r.tells_side from.opens r.log' r.side' refused.why refused.refused files (counts_since disk r.log r.log' (refused.refused.crash r.tells r.tells_side).later r.side' files may))
-    left_now (Check (inr c)) is files may =
-        as_before (λ v events. subst (λ (d : TheDid). AreOfRun disk clock source sink link v events r d events) (sym is) refl) files (
-          (disk.seen r.log, disk.seen r.side),
-          (disk.leaves_seen r.log r.tells, disk.leaves_seen r.side r.tells_side),
-          to_both store long (disk.seen r.log, disk.seen r.side) files list c.opened.store c.opened.long c.opened.history from.opens (c.opened.bytes r.tells r.tells_side) (c.files r.tells r.tells_side files (inr may.0, inr may.1)),
-        )
+    left_now (Check did) is files may = looked_now (λ v events. subst (λ (d : TheDid). AreOfRun disk clock source sink link v events r d events) (sym is) refl) did files may
+    left_now (Archive page query did) is files may = looked_now (λ v events. subst (λ (d : TheDid). AreOfRun disk clock source sink link v events r d events) (sym is) refl) did files may
     left_now (Pack (inl refused)) is files may =
         as_before (λ v events. subst (λ (d : TheDid). AreOfRun disk clock source sink link v events r d events) (sym is) refl) files
         (refused_keeps disk store long r.log r.side list r.tells r.tells_side from.opens r.log' r.side' refused.why refused.refused files (counts_since disk r.log r.log' (refused.refused.crash r.tells r.tells_side).later r.side' files may))
@@ -327,13 +344,8 @@ module _ {D S O C L : Type 0} (disk : DiskMeaning D) (clock : ClockMeaning C) (s
     left_then (Drain (inl refused)) is crash files may =
         as_before (λ v events. subst (λ (d : TheDid). AreOfRun disk clock source sink link v events r d events) (sym is) refl) files
         (refused_keeps disk store long r.log r.side list r.tells r.tells_side from.opens r.log' r.side' refused.why.why.why refused.why.why.refused files may)
-    left_then (Check (inl refused)) is crash files may =
-        as_before (λ v events. subst (λ (d : TheDid). AreOfRun disk clock source sink link v events r d events) (sym is) refl) files
-        (refused_keeps disk store long r.log r.side list r.tells r.tells_side from.opens r.log' r.side' refused.why refused.refused files may)
-    left_then (Check (inr c)) is crash files may =
-        as_before (λ v events. subst (λ (d : TheDid). AreOfRun disk clock source sink link v events r d events) (sym is) refl) files
-        (opened_keeps disk store long r.log r.side list r.tells r.tells_side from.opens c.room c.opened files
-        (subst (λ (d : D). disk.left_since d (disk.moment r.log) files.0) c.same may.0, subst (λ (d : D). disk.may_leave d files.1) c.same_side may.1))
+    left_then (Check did) is crash files may = looked_then (λ v events. subst (λ (d : TheDid). AreOfRun disk clock source sink link v events r d events) (sym is) refl) did files may
+    left_then (Archive page query did) is crash files may = looked_then (λ v events. subst (λ (d : TheDid). AreOfRun disk clock source sink link v events r d events) (sym is) refl) did files may
     left_then (Pack (inl refused)) is crash files may =
         as_before (λ v events. subst (λ (d : TheDid). AreOfRun disk clock source sink link v events r d events) (sym is) refl) files
         (refused_keeps disk store long r.log r.side list r.tells r.tells_side from.opens r.log' r.side' refused.why refused.refused files may)

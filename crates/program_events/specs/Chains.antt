@@ -28,6 +28,7 @@ use Rattle.room_reports.specs.Reports.{feed_report_at, queue_report_at}
 use Rattle.store_files.specs.Files.{Files, OpenTo, MayLeave, LeftSince}
 use Rattle.world_laws.specs.Headline.{Headline}
 use Rattle.world_laws.specs.World.{World, Event, Reopens, happens, after}
+use Rattle.newsdesk_cli.specs.Archive.{IsArchive}
 use Rattle.newsdesk_cli.specs.Command.{HasAnswered, HasReported, IsBatch, IsIngest, IsReportOf, HasDrained, IsDrain, IsCheck, IsPack, IsInit, IsMade}
 use Rattle.program_events.specs.Events.{Input, line_input}
 use Rattle.program_events.specs.Stories.{wire_input, item_input}
@@ -60,6 +61,7 @@ module _ {D S O C L : Type 0} (disk : DiskMeaning D) (clock : ClockMeaning C) (s
     Queue : IsReportOf disk clock sink log log' side side' o o' c c' status queue_report_at → Did log log' side side' i i' o o' c c' l l' status
     Drain : IsDrain disk clock sink log log' side side' o o' c c' status link l l' → Did log log' side side' i i' o o' c c' l l' status
     Check : IsCheck disk sink log log' side side' o o' status → Did log log' side side' i i' o o' c c' l l' status
+    Archive : (page : ℕ) (query : Bytes) → IsArchive disk sink page query log log' side side' o o' status → Did log log' side side' i i' o o' c c' l l' status
     Pack : IsPack disk sink log log' side side' o o' status → Did log log' side side' i i' o o' c c' l l' status
 
   -- a run on files that tell what they hold; and what a crash left of them, where one came within the run or behind it
@@ -101,6 +103,7 @@ module _ {D S O C L : Type 0} (disk : DiskMeaning D) (clock : ClockMeaning C) (s
   LeftByRun r (Queue did) files = LeftSince disk r.log' r.side' (disk.moment r.log) files
   LeftByRun r (Drain did) files = LeftSince disk r.log' r.side' (disk.moment r.log) files
   LeftByRun r (Check did) files = LeftSince disk r.log' r.side' (disk.moment r.log) files
+  LeftByRun r (Archive page query did) files = LeftSince disk r.log' r.side' (disk.moment r.log) files
   LeftByRun r (Pack did) files = LeftByPacking r did files
 
   abbrev pub MayCrash : Run → Option Files → Type 0
@@ -172,6 +175,7 @@ module _ {D S O C L : Type 0} (disk : DiskMeaning D) (clock : ClockMeaning C) (s
   AreOfRun write before r (Drain (inl refused)) events = events ≡ before
   AreOfRun write before r (Init owner did) events = events ≡ before
   AreOfRun write before r (Check did) events = events ≡ before
+  AreOfRun write before r (Archive page query did) events = events ≡ before
   AreOfRun write before r (Pack did) events = events ≡ before
 
   -- events of runs, one behind the other

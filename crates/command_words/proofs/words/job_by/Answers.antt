@@ -10,5 +10,5 @@ returns-in-len1 c =
 
 pub returns-in-len2 : goal.returns-in-len2
 returns-in-len2 c =
-    c.wide_job.ensures ∙ ap (λ f. wide_job c.args.verb.now f c.as_str-in-len2-2.result.now) c.as_str-in-len2.ensures ∙ ap (wide_job c.args.verb.now c.first-item.result) c.as_str-in-len2-2.ensures
+    c.wide_job.ensures ∙ ap (λ f. wide_job c.args.verb.now f c.second-item.result) c.as_str-in-len2.ensures
     ∙ by_two c.args.verb.now c.args.words.now c.in-len2.len_at_least c.in-len2.len_below c.first-item.result c.second-item.result c.first-item.is c.second-item.is

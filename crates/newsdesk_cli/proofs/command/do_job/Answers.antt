@@ -90,3 +90,12 @@ returns-in-Pack-clause-receives g c told = rw c.in-Pack.is tt
 
 pub returns-in-Pack-clause-links : goal.returns-in-Pack-clause-links
 returns-in-Pack-clause-links g c other = refl
+
+pub returns-in-Archive-clause-does : goal.returns-in-Archive-clause-does
+returns-in-Archive-clause-does g c = rw c.in-Archive.is (record { input_same = refl; clock_same = refl }, c.ask_archive.ensures)
+
+pub returns-in-Archive-clause-receives : goal.returns-in-Archive-clause-receives
+returns-in-Archive-clause-receives g c told = rw c.in-Archive.is tt
+
+pub returns-in-Archive-clause-links : goal.returns-in-Archive-clause-links
+returns-in-Archive-clause-links g c other = refl

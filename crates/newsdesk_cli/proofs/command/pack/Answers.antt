@@ -1,6 +1,6 @@
 use Rattle.std.proofs.Common.{◌∙◌, ◌+◌, inl, inr, sym, ap, subst}
 use Rattle.news_pair.specs.Keeper.{pair_of}
-use Rattle.newsdesk_cli.specs.Command.{IsStopped}
+use Rattle.newsdesk_cli.specs.Telling.{IsStopped}
 use Rattle.store_files.specs.Files.{FilesHold}
 use Rattle.newsdesk_cli.proofs.Packing.{faults_are, counted, packs, packed_holds, packs_not, unpacked_keeps, pack_counts}
 use Rattle.newsdesk_cli.proofs.command.pack.Goals as goal
