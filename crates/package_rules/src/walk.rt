@@ -6,11 +6,11 @@ ghost use Rattle.package_rules.specs.Opening.{contents as contents_of, members_i
 ghost use Rattle.package_rules.specs.Walking.{IsAt};
 
 use crate::lines::{Contents, Steps, is_new, put_line};
-use package_members::Members;
 use crate::text::named_members;
 use news_io::Keeper;
 use news_room::Room;
 use news_types::{Answer, Memory, Query};
+use package_members::Members;
 use std::alloc::Global;
 use std::collections::HashSet;
 
