@@ -1,4 +1,5 @@
-use Rattle.std.proofs.Common.{refl}
+use Rattle.std.proofs.Common.{refl, subst}
+use Rattle.newsdesk_cli.specs.Archive.{IsArchive}
 use Rattle.newsdesk_cli.proofs.command.do_job.Goals as goal
 
 pub returns-in-Init-clause-does : goal.returns-in-Init-clause-does
@@ -92,7 +93,9 @@ pub returns-in-Pack-clause-links : goal.returns-in-Pack-clause-links
 returns-in-Pack-clause-links g c other = refl
 
 pub returns-in-Archive-clause-does : goal.returns-in-Archive-clause-does
-returns-in-Archive-clause-does g c = rw c.in-Archive.is (record { input_same = refl; clock_same = refl }, c.ask_archive.ensures)
+returns-in-Archive-clause-does g c =
+    let query = λ q. IsArchive g.D.Disk.disk g.O.Sink.sink c.in-Archive.page q c.args.log c.ask_archive.result.1 c.args.side c.ask_archive.result.2 c.args.output.now c.ask_archive.new.output c.ask_archive.result.0 in
+    rw c.in-Archive.is (record { input_same = refl; clock_same = refl }, subst query c.as_str.ensures c.ask_archive.ensures)
 
 pub returns-in-Archive-clause-receives : goal.returns-in-Archive-clause-receives
 returns-in-Archive-clause-receives g c told = rw c.in-Archive.is tt
