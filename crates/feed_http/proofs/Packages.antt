@@ -332,5 +332,8 @@ module _ {K : Type 0} (keeper : KeeperMeaning K) (caller : Bytes) (number : ℕ)
 
   -- there was no memory for the package
   pub unmade_turn : (room : Room K) → response ≡ notice_response notice.NoMemory → TurnedTo room room
-  unmade_turn room none = ([], λ b stands. still_turn keeper room b (ask_outcome (the_writer b.store) b.list (ask.Package caller number described) (moment_at b.list now)) response (PackageEvents keeper room room b [] caller number p now response) stands
-      (unheard keeper room (ask_outcome (the_writer b.store) b.list (ask.Package caller number described) (moment_at b.list now)) response none) (inl (still keeper room)))
+  unmade_turn room none = (
+    [],
+    λ b stands. still_turn keeper room b (ask_outcome (the_writer b.store) b.list (ask.Package caller number described) (moment_at b.list now)) response (PackageEvents keeper room room b [] caller number p now response) stands
+        (unheard keeper room (ask_outcome (the_writer b.store) b.list (ask.Package caller number described) (moment_at b.list now)) response none) (inl (still keeper room)),
+  )
