@@ -61,6 +61,11 @@ module _ {K : Type 0} (keeper : KeeperMeaning K) (old new : Room K) (b : Book) (
   abbrev pub Found : archive.Told → Type 0
   Found told = (c : Book) → Stands keeper new c → told ≡ archive_told c.list page query
 
+  -- the same of a text that is the query
+  pub found_for : (text : Bytes) (found : Result archive.Told NoMemory) → text ≡ query → IfOk found (λ told. (c : Book) → Stands keeper new c → told ≡ archive_told c.list page text) → IfOk found Found
+  found_for text (Ok told) same is = λ c stands. is c stands ∙ ap (λ (q : Bytes). archive_told c.list page q) same
+  found_for text (Err why) same is = tt
+
   found_behind : (found : Result archive.Told NoMemory) (g : History) → followed_by more b.list ≡ g → Stands keeper new (onto more b) → IfOk found Found → IfOk found (λ told. archive_response told ≡ archive_response (archive_told g page query))
   found_behind (Ok told) g at stands is = ap archive_response (is (onto more b) stands ∙ ap (λ (l : History). archive_told l page query) at)
   found_behind (Err why) g at stands is = tt
