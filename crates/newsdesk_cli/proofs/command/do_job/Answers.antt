@@ -96,8 +96,8 @@ returns-in-Pack-clause-links g c other = refl
 pub returns-in-Archive-clause-does : goal.returns-in-Archive-clause-does
 returns-in-Archive-clause-does g c =
     rw c.in-Archive.is (
-    record { input_same = refl; clock_same = refl },
-    subst (λ (q : Bytes). IsArchive g.D.Disk.disk g.O.Sink.sink c.in-Archive.page q c.args.log c.ask_archive.result.1 c.args.side c.ask_archive.result.2 c.args.output.now c.ask_archive.new.output c.ask_archive.result.0) c.as_str.ensures c.ask_archive.ensures,
+      record { input_same = refl; clock_same = refl },
+      subst (λ (q : Bytes). IsArchive g.D.Disk.disk g.O.Sink.sink c.in-Archive.page q c.args.log c.ask_archive.result.1 c.args.side c.ask_archive.result.2 c.args.output.now c.ask_archive.new.output c.ask_archive.result.0) c.as_str.ensures c.ask_archive.ensures,
     )
 
 pub returns-in-Archive-clause-receives : goal.returns-in-Archive-clause-receives
