@@ -29,8 +29,9 @@ use Rattle.desk_answers.specs.Answers.{reply_bytes, denial_bytes, bad_bytes}
 use Rattle.package_rules.specs.declared.publish.Packaged.{Packaged}
 use Rattle.package_rules.specs.Composed.{Composed}
 use Rattle.package_rules.specs.Publishing.{packaged_by, flash_of, IsFlashed, HasNoReaders, FlashStep, BehindTick, IsPublished}
+use Rattle.package_rules.specs.Report.{no_readers_text}
 use Rattle.store_files.specs.Store.{IsOpenRoom}
-use Rattle.whole_runs.specs.Packaging.{LONGEST_INPUT, no_readers_text, end_line, IsPackagedTold, HasPublished, IsPackageRun}
+use Rattle.whole_runs.specs.Packaging.{LONGEST_INPUT, end_line, IsPackagedTold, HasPublished, IsPackageRun}
 use Rattle.newsdesk_cli.specs.Command.{IsServed}
 use Rattle.newsdesk_cli.specs.FilesLeft.{FilesLeft}
 use Rattle.newsdesk_cli.proofs.Commands.{rose_along}

@@ -5,7 +5,6 @@ ghost use Rattle.newsdesk_cli.specs.Archive.{IsArchive, IsAsked};
 
 use crate::telling::{tell_answer, tell_trouble};
 use archive_search::answer_text;
-use command_words::Word;
 use news_io::{Disk, Keeper, Sink};
 use news_room::Room;
 use news_types::Memory;
@@ -20,13 +19,13 @@ pub(crate) fn ask_archive<O: Sink, D: Disk>(
     log: D,
     side: D,
     page: u32,
-    query: Word<'_>,
+    query: &str,
 ) -> (u8, D, D)
-    ensures { IsArchive D.disk O.sink page query log result.1 side result.2 output.old output.new result.0 }
+    ensures { IsArchive D.disk O.sink page query.now log result.1 side result.2 output.old output.new result.0 }
 {
     match open_room(alloc, log, side) {
         Ok(room) => {
-            let status = tell_query(alloc, output, &room, page, query.as_str());
+            let status = tell_query(alloc, output, &room, page, query);
             let (log, side) = room.into_keeper().into_disks();
             (status, log, side)
         }

@@ -15,6 +15,7 @@ ghost use Rattle.command_words.specs.declared.words.Job.TheVariants.{Drain};
 
 use crate::archive::ask_archive;
 use crate::check::check_line;
+use crate::contents::list_contents;
 use crate::import::take_table;
 use crate::pack::tell_packed;
 use crate::package::take_package;
@@ -72,9 +73,9 @@ fn do_job<S: Source, O: Sink, D: Disk, C: Clock, L: Link>(
     clock: &mut C,
     links: &mut Vec<L>,
 ) -> (u8, D, D)
-    ensures does { Does D.disk C.clock S.source O.sink L.link log result.1 side result.2 input.old input.new output.old output.new clock.old clock.new links.old.items links.new.items result.0 (Some job) }
-    ensures receives { D.disk.tells log → ReceiverServes (D.disk.seen log) (D.disk.faults log) (D.disk.faults result.1) (Some job) result.0 }
-    ensures links { (job ≡ Drain → ⊥) → links.new.items ≡ links.old.items }
+    ensures does { Does D.disk C.clock S.source O.sink L.link log result.1 side result.2 input.old input.new output.old output.new clock.old clock.new links.old.items links.new.items result.0 (Some job.entry) }
+    ensures receives { D.disk.tells log → ReceiverServes (D.disk.seen log) (D.disk.faults log) (D.disk.faults result.1) (Some job.entry) result.0 }
+    ensures links { (job.entry ≡ Drain → ⊥) → links.new.items ≡ links.old.items }
 {
     match job {
         Job::Init(store) => init(output, log, side, store),
@@ -88,7 +89,10 @@ fn do_job<S: Source, O: Sink, D: Disk, C: Clock, L: Link>(
         }
         Job::Feed { subscriber, after } => feed(alloc, output, log, side, clock, subscriber, after),
         Job::Queue => queue(alloc, output, log, side, clock),
-        Job::Archive { page, query } => ask_archive(alloc, output, log, side, page, query),
+        Job::Archive { page, query } => {
+            ask_archive(alloc, output, log, side, page, query.as_str())
+        }
+        Job::Contents(publication) => list_contents(alloc, output, log, side, publication),
         Job::Drain => drain(alloc, output, log, side, clock, links),
         Job::Receive(name) => receive(alloc, input, output, log, side, name),
         Job::Drill { stories, seed } => drill(alloc, output, log, side, clock, stories, seed),

@@ -4,6 +4,7 @@
 mod archive;
 mod check;
 mod command;
+mod contents;
 mod import;
 mod pack;
 mod package;

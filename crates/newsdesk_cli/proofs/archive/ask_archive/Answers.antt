@@ -3,7 +3,6 @@ use mathlib.Core.Bool.{false≢true}
 use Rattle.news_pair.specs.Stands.{log_disk, side_disk}
 use Rattle.store_files.specs.Files.{FilesHold}
 use Rattle.store_files.proofs.Holding.{room_holds}
-use Rattle.newsdesk_cli.specs.Archive.{IsAsked}
 use Rattle.newsdesk_cli.proofs.Commands.{some_book}
 use Rattle.newsdesk_cli.proofs.archive.ask_archive.Goals as goal
 
@@ -27,9 +26,7 @@ returns-in-Ok g c =
           subst (λ x. FilesHold d x c.into_disks-log.result.1 room.store room.history) (sym same)
           (subst (λ x. FilesHold d (log_disk c.in-Ok.room.keeper) x room.store room.history) (sym same_side)
           (room_holds d c.args.log c.args.side c.in-Ok.room room told told'));
-      told =
-          subst (λ q. IsAsked g.O.Sink.sink room.history c.args.page q c.args.output.now c.tell_query-status.new.output c.tell_query-status.result) c.as_str.ensures
-          (c.tell_query-status.ensures (record { store = room.store; told = false; list = room.history }) (room.holds false (λ is. absurd (false≢true is))).stands);
+      told = c.tell_query-status.ensures (record { store = room.store; told = false; list = room.history }) (room.holds false (λ is. absurd (false≢true is))).stands;
     })
 
 pub returns-in-Err : goal.returns-in-Err

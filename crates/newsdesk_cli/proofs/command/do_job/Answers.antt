@@ -1,4 +1,5 @@
-use Rattle.std.proofs.Common.{refl}
+use Rattle.std.proofs.Common.{refl, subst}
+use Rattle.newsdesk_cli.specs.Archive.{IsArchive}
 use Rattle.newsdesk_cli.proofs.command.do_job.Goals as goal
 
 pub returns-in-Init-clause-does : goal.returns-in-Init-clause-does
@@ -110,10 +111,21 @@ pub returns-in-Package-clause-links : goal.returns-in-Package-clause-links
 returns-in-Package-clause-links g c other = refl
 
 pub returns-in-Archive-clause-does : goal.returns-in-Archive-clause-does
-returns-in-Archive-clause-does g c = rw c.in-Archive.is (record { input_same = refl; clock_same = refl }, c.ask_archive.ensures)
+returns-in-Archive-clause-does g c = 
+    let query = λ q. IsArchive g.D.Disk.disk g.O.Sink.sink c.in-Archive.page q c.args.log c.ask_archive.result.1 c.args.side c.ask_archive.result.2 c.args.output.now c.ask_archive.new.output c.ask_archive.result.0 in
+    rw c.in-Archive.is (record { input_same = refl; clock_same = refl }, subst query c.as_str.ensures c.ask_archive.ensures)
 
 pub returns-in-Archive-clause-receives : goal.returns-in-Archive-clause-receives
 returns-in-Archive-clause-receives g c told = rw c.in-Archive.is tt
 
 pub returns-in-Archive-clause-links : goal.returns-in-Archive-clause-links
 returns-in-Archive-clause-links g c other = refl
+
+pub returns-in-Contents-clause-does : goal.returns-in-Contents-clause-does
+returns-in-Contents-clause-does g c = rw c.in-Contents.is (record { input_same = refl; clock_same = refl }, c.list_contents.ensures)
+
+pub returns-in-Contents-clause-receives : goal.returns-in-Contents-clause-receives
+returns-in-Contents-clause-receives g c told = rw c.in-Contents.is tt
+
+pub returns-in-Contents-clause-links : goal.returns-in-Contents-clause-links
+returns-in-Contents-clause-links g c other = refl
