@@ -157,6 +157,19 @@ def fault(what, **property):
     return 400, keyed(answer="fault", what=what, **property), JSON
 
 
+def no_readers(front):
+    return 409, keyed(answer="no-readers", front=front), JSON
+
+
+def found(total, *rows):
+    names = ("number", "item", "version", "act", "release")
+    return told("archive", total=total, rows=[dict(sorted(zip(names, row))) for row in rows])
+
+
+def bad_query(at):
+    return 400, keyed(answer="bad-query", at=at), JSON
+
+
 def bare(status):
     return status, "", JSON
 
@@ -186,6 +199,15 @@ def receipt(subscriber, user, n, wanted):
 
 def ingest(provider, user, value, wanted):
     return Ask(f"POST /ingest/{provider}/ninjs", user, wanted, value)
+
+
+def package(user, number, members, wanted, /, **story):
+    members = [{"role": role, "item": item} for role, item in members.items()]
+    return Ask("POST /packages", user, wanted, {"number": number, **story, "members": members})
+
+
+def archive(user, page, query, wanted):
+    return Ask("POST /archive", user, wanted, {"page": page, "query": query})
 
 
 def city(user="admin", number=1, wanted=None):
@@ -434,6 +456,168 @@ WAITING = (
     post("admin", 5, "publish", done(5, 1, 1, 1005), item=1, session="s", embargo=1005),
 )
 
+ALPHA = {"subscriber": "alpha", "format": "ninjs", "products": ["all"]}
+MAIN = {"main": 1}
+
+PACKAGES = Connection(
+    "packages go to those who have every member",
+    "Closed",
+    post("admin", 1, "add_subscriber", done(1), **ALPHA),
+    post("admin", 2, "flash", done(2, 1, 1, 1001), story={"headline": "Fire", "body": "Smoke."}),
+    post("admin", 3, "add_subscriber", done(3), **{**ALPHA, "subscriber": "beta"}),
+    package("admin", 4, MAIN, done(4, 2, 2, 1003), headline="Pack"),
+    # the same again acts once
+    package("admin", 4, MAIN, done(4, 2, 2, 1003, word="repeat"), headline="Pack"),
+    get("/feeds/alpha/after/0", "admin", feed("alpha", 2, (1, 1, 1, 1, "first", 1001), (2, 2, 2, 1, "first", 1003))),
+    get("/feeds/beta/after/0", "admin", feed("beta", 0)),
+    # that there are no readers stands before every denial
+    package("admin", 5, {"main": 9}, no_readers(4), headline="Pack"),
+    package("admin", 9, {"main": 9}, no_readers(4), headline="Pack"),
+    package("admin", 5, {"main": 1, "more": 9}, no_readers(4), headline="Pack"),
+    package("admin", 9, MAIN, denied("OutOfTurn", expected=5), headline="Pack"),
+    package("admin", 4, MAIN, denied("NumberUsed", kept=4), headline="Other"),
+    # what is bad: the number, the story, the members, and whether a package can be made of them
+    Ask("POST /packages", "admin", bad("number"), {"headline": "Pack", "members": [{"role": "main", "item": 1}]}),
+    Ask("POST /packages", "admin", bad("urgency"), {"number": 5, "urgency": 12, "members": 7}),
+    Ask("POST /packages", "admin", bad("members"), {"number": 5, "members": 7}),
+    Ask("POST /packages", "admin", bad("members"), {"number": 5, "headline": "Pack"}),
+    package("admin", 5, {}, bad("members")),
+    package("admin", 5, {"main": 0}, bad("members")),
+    package("admin", 5, {"main": 1, "photo": 1}, bad("members")),
+    package("admin", 5, {"Main": 1}, bad("role")),
+    package("admin", 5, {"main": -1}, bad("item")),
+    Ask("POST /packages", "admin", bad("line"), "[]"),
+    # no name, no route and no right
+    package(None, 5, MAIN, bare(400)),
+    package("zoe", 1, MAIN, bare(403)),
+    Ask("POST /packages", "zoe", bad("line"), "[]"),
+    get("/packages", "admin", bare(404)),
+    # a user's package is judged as a flash is
+    post("admin", 5, "add_user", done(5), user="ana", privileges=["write"]),
+    package("ana", 1, MAIN, denied("NoPrivilege", privilege="publish")),
+    package("ana", 1, {"main": 9}, no_readers(5)),
+    # behind a kill nobody has the member
+    post("admin", 6, "lock", done(6, 1), item=1, session="s"),
+    post("admin", 7, "kill", done(7, 1, 3, 1030), item=1, session="s", note="No fire."),
+    package("admin", 8, MAIN, no_readers(7)),
+    # a package may be a member
+    package("admin", 8, {"pack": 2}, done(8, 3, 4, 1032)),
+)
+
+FIRST = (1, 1, 1, "first", "1970-01-01T00:16:41Z")
+CLOSED = (2, 2, 1, "first", "1970-01-01T00:16:42Z")
+
+ARCHIVE = Connection(
+    "the archive is searched",
+    "Closed",
+    post("admin", 1, "add_subscriber", done(1), **ALPHA),
+    post("admin", 2, "flash", done(2, 1, 1, 1001), story={"headline": "Fire", "body": "Smoke."}),
+    post("admin", 3, "flash", done(3, 2, 2, 1002), story={"headline": "Road closed", "urgency": 4}),
+    archive("admin", 0, "number above 0 and not item is 2", found(1, FIRST)),
+    archive("admin", 0, "act is first", found(2, FIRST, CLOSED)),
+    archive("admin", 0, 'headline has "ROAD"', found(1, CLOSED)),
+    archive("admin", 0, "( urgency is 4 or act is kill )", found(1, CLOSED)),
+    # a page past the end, and a query that finds nothing
+    archive("admin", 1, "act is first", found(2)),
+    archive("admin", 4294967295, "act is kill", found(0)),
+    # what is no query, at the place from which none goes on
+    archive("admin", 0, "number above", bad_query(12)),
+    archive("admin", 0, "", bad_query(0)),
+    archive("admin", 0, "number over 1", bad_query(7)),
+    # what is bad
+    Ask("POST /archive", "admin", bad("page"), {"query": "act is kill"}),
+    archive("admin", 4294967296, "act is kill", bad("page")),
+    archive("admin", -1, 7, bad("page")),
+    Ask("POST /archive", "admin", bad("query"), {"page": 0}),
+    archive("admin", 0, 7, bad("query")),
+    archive("admin", 0, None, bad("query")),
+    Ask("POST /archive", "admin", bad("line"), '{"page":0,"query":"act is kill"'),
+    # no name, no route and no right
+    archive(None, 0, "act is kill", bare(400)),
+    archive("zoe", 0, "act is kill", bare(403)),
+    archive("zoe", 0, "number above", bare(403)),
+    get("/archive", "admin", bare(404)),
+    Ask("POST /archive/0", "admin", bare(404), {"page": 0, "query": "act is kill"}),
+)
+
+# six requests, of which the last lets an item wait until 1010, and four more
+WAITING_MEMBER = (
+    post("admin", 1, "add_subscriber", done(1), **ALPHA),
+    city(number=2),
+    post("admin", 3, "set_member", done(3), desk="city", user="admin", member=True),
+    post("admin", 4, "create", done(4, 1), desk="city", story={}),
+    post("admin", 5, "lock", done(5, 1), item=1, session="s"),
+    post("admin", 6, "publish", done(6, 1, 1, 1010), item=1, session="s", embargo=1010),
+    package("admin", 7, MAIN, no_readers(6), headline="Pack"),
+    archive("admin", 0, "release above 1009", found(1, (1, 1, 1, "first", "1970-01-01T00:16:50Z"))),
+    get("/queue", "admin", queue(("alpha", 0, 0, 0, "waiting"))),
+    package("admin", 7, MAIN, no_readers(6), headline="Pack"),
+)
+BOTH = get("/queue", "admin", queue(("alpha", 2, 0, 0, "pending")))
+MEMBER_ALONE = get("/queue", "admin", queue(("alpha", 1, 0, 0, "pending")))
+
+# name, format and products of the subscriber
+SUBSCRIBER = record(1 + 5 + 1 + 2 + 1 + 3)
+MEMBER_WAITS = SUBSCRIBER + SCHEDULED
+
+PACKAGE_TICKS = [
+    Connection(
+        "a package stands behind its tick",
+        "Closed",
+        *WAITING_MEMBER,
+        # at 1010: the tick lets the member in, as entry 7
+        package("admin", 7, MAIN, done(8, 2, 2, 1010), headline="Pack"),
+        package("admin", 7, MAIN, done(8, 2, 2, 1010, word="repeat"), headline="Pack"),
+        BOTH,
+    ),
+    Connection(
+        "the log fails at the tick of a package",
+        "Closed",
+        *WAITING_MEMBER,
+        package("admin", 7, MAIN, bare(503), headline="Pack"),
+        package("admin", 7, MAIN, done(8, 2, 2, 1011), headline="Pack"),
+        BOTH,
+        failing=7,
+    ),
+    Connection(
+        "the log fails at a package behind its tick",
+        "Closed",
+        *WAITING_MEMBER,
+        package("admin", 7, MAIN, bare(503), headline="Pack"),
+        package("admin", 7, MAIN, done(8, 2, 2, 1011), headline="Pack"),
+        BOTH,
+        failing=8,
+    ),
+    Connection(
+        "the tick of a package has no room",
+        "Closed",
+        *WAITING_MEMBER,
+        package("admin", 7, MAIN, bare(508), headline="Pack"),
+        archive("admin", 0, "number above", bare(508)),
+        package("zoe", 1, MAIN, bare(403), headline="Pack"),
+        used=LIMIT - MEMBER_WAITS - ADVANCE + 1,
+    ),
+    Connection(
+        "a package has no room behind the last tick that has",
+        "Closed",
+        *WAITING_MEMBER,
+        package("admin", 7, MAIN, bare(508), headline="Pack"),
+        package("admin", 7, MAIN, bare(508), headline="Pack"),
+        package("admin", 7, {"main": 9}, no_readers(7), headline="Pack"),
+        MEMBER_ALONE,
+        used=LIMIT - MEMBER_WAITS - ADVANCE,
+    ),
+    Connection(
+        "the log fails at the tick of a search",
+        "Closed",
+        *WAITING_MEMBER,
+        archive("admin", 0, "number above", bare(503)),
+        archive("admin", 0, "number above", bad_query(12)),
+        MEMBER_ALONE,
+        failing=7,
+    ),
+]
+
 FULL = [
     Connection("the last record that has room", "Closed", city(), city(number=2, wanted=denied("NameTaken")), used=LIMIT - DESK),
     Connection(
@@ -623,7 +807,7 @@ def twice(ask):
 STARVED = [
     Connection(
         "no memory in the turn of every other request",
-        "Stopped { place: 7 }",
+        "Stopped { place: 8 }",
         *twice(city()),
         *twice(post("admin", 2, "add_subscriber", done(2), subscriber="alpha", format="ninjs", products=["all"])),
         *twice(post("admin", 3, "flash", done(3, 1, 1, 1005), story={"headline": "Fire", "slugline": "fire", "language": "en", "urgency": 3, "body": "Smoke."})),
@@ -633,15 +817,17 @@ STARVED = [
         *twice(post("admin", 4, "add_provider", done(5), provider="wire")),
         *twice(ingest("wire", "admin", {"uri": "http://x.example/1", "type": "text", "headline": "Fire", "body_text": "Smoke."}, done(6, 2))),
         *twice(get("/items/2", "admin", item("ingested", {"headline": "Fire", "body": "Smoke."}, 1, number=2))),
+        *twice(archive("admin", 0, "number above 0", found(1, (1, 1, 1, "first", "1970-01-01T00:16:45Z")))),
+        *twice(package("admin", 5, MAIN, done(7, 3, 2, 1021))),
         *[get("/items/2", "zoe", bare(403))] * 2,
         *[get("/nothing", "admin", bare(404))] * 2,
-        *twice(post("admin", 5, "stop", done(7))),
+        *twice(post("admin", 6, "stop", done(8))),
         get("/queue", "admin", (None, "", JSON)),
         failing="growth",
     )
 ]
 
-TABLE = [*WORKED, USERS, TARGETS, BODIES, STORY, TICKS, INGESTS, *FULL, *FAILS, *ENDINGS, *HEADS]
+TABLE = [*WORKED, USERS, TARGETS, BODIES, STORY, TICKS, INGESTS, PACKAGES, ARCHIVE, *PACKAGE_TICKS, *FULL, *FAILS, *ENDINGS, *HEADS]
 
 
 # ---- the files of the gate

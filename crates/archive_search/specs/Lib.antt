@@ -1,2 +1,4 @@
 pub mod Pages
 pub mod Answers
+pub mod Told
+pub mod Laws

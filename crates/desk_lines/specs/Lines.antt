@@ -1,4 +1,5 @@
--- What a line says: a request, a question or a receipt, or the first property that is bad.
+-- What a line says: a request, a question or a receipt, or the first property that is bad; and what packages and questions on
+-- the archive say that come by themselves.
 use Rattle.std.specs.Prelude.{ℕ, Bool, List, [], ◌∷◌, length, nat_le, is_some, if◌then◌else◌, Option, Some, None, Result, Ok, Err}
 use Rattle.serde_json.specs.Data.{Data}
 use Rattle.serde_json.specs.Find.{as_object}
@@ -10,10 +11,14 @@ use Rattle.desk_lines.specs.declared.property.LineProperty.{LineProperty}
 use Rattle.desk_lines.specs.declared.property.LineProperty.TheVariants as the
 use Rattle.desk_lines.specs.declared.asked.Asked.{Asked}
 use Rattle.desk_lines.specs.declared.asked.Asked.TheVariants as asked
-use Rattle.desk_lines.specs.Reading.{Says, then_read, ◌>>=◌, gives, property, needs, inside, json_of}
+use Rattle.desk_lines.specs.declared.lines.Described.{Described}
+use Rattle.desk_lines.specs.declared.lines.PackageRequest.{PackageRequest}
+use Rattle.package_members.specs.declared.member.Member.{Member}
+use Rattle.package_members.specs.Members.{make_package}
+use Rattle.desk_lines.specs.Reading.{Says, then_read, ◌>>=◌, gives, property, needs, inside, each, json_of}
 use Rattle.desk_lines.specs.Forms.{whole, any_text, name, ◌means◌}
 use Rattle.desk_lines.specs.Rows.{Row, by_word}
-use Rattle.desk_lines.specs.Objects.{story}
+use Rattle.desk_lines.specs.Objects.{story, member}
 use Rattle.desk_lines.specs.Commands.{command, an_item}
 
 -- ---- requests
@@ -31,6 +36,13 @@ request = do caller ← needs the.By name; request_of caller
 
 -- ---- questions
 
+-- the page of what a query finds in the archive
+unfoldable pub archive : Says Asked
+archive = do
+  page ← needs the.Page (whole 4294967295)
+  query ← needs the.Query any_text
+  gives (asked.Archive page query)
+
 abbrev pub question_rows : List (Row Asked)
 question_rows =
     ("feed" means do
@@ -39,7 +51,8 @@ question_rows =
       gives (asked.Query (query.Feed subscriber after))) ∷
     ("item" means do item ← an_item; gives (asked.Query (query.Item item))) ∷
     ("queue" means gives (asked.Query query.Queue)) ∷
-    ("check" means gives (asked.Query query.Check)) ∷ []
+    ("check" means gives (asked.Query query.Check)) ∷
+    ("archive" means archive) ∷ []
 
 unfoldable pub question : Says Asked
 question = do word ← needs the.Ask any_text; (λ d. by_word question_rows word d (Err the.Ask))
@@ -88,6 +101,37 @@ receipt_body subscriber bytes = then_read (object_in bytes) (receipt_of subscrib
 
 abbrev pub story_object : List ℕ → Result Story LineProperty
 story_object bytes = then_read (object_in bytes) story
+
+abbrev pub archive_body : List ℕ → Result Asked LineProperty
+archive_body bytes = then_read (object_in bytes) archive
+
+-- ---- packages
+
+-- they are read each, and then a package has to be made of them
+abbrev pub if_package : List Member → Says (List Member)
+if_package found d = if make_package found then Ok found else Err the.Members
+
+unfoldable pub members : Says (List Member)
+members = do found ← each the.Members 4194304 member; if_package found
+
+-- the story's properties, and then the members
+unfoldable pub described : Says Described
+described = do
+  told ← story
+  found ← members
+  gives (record { story = told; members = found })
+
+abbrev pub package_object : List ℕ → Result Described LineProperty
+package_object bytes = then_read (object_in bytes) described
+
+unfoldable pub package_request : Says PackageRequest
+package_request = do
+  number ← needs the.Number (whole 18446744073709551615)
+  read ← described
+  gives (record { number = number; described = read })
+
+abbrev pub package_body : List ℕ → Result PackageRequest LineProperty
+package_body bytes = then_read (object_in bytes) package_request
 
 -- ---- what is read is within the limits
 

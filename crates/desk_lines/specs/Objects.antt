@@ -5,6 +5,7 @@ use Rattle.news_types.specs.declared.story.Story.{Story}
 use Rattle.news_types.specs.declared.rules.Statement.{Statement}
 use Rattle.news_types.specs.declared.rules.Place.{Place}
 use Rattle.news_types.specs.declared.rules.Rule.{Rule}
+use Rattle.package_members.specs.declared.member.Member.{Member}
 use Rattle.desk_lines.specs.declared.property.LineProperty.TheVariants as the
 use Rattle.desk_lines.specs.Reading.{Says, ◌>>=◌, gives, needs, may, option, may_inside}
 use Rattle.desk_lines.specs.Forms.{whole, flag, text, name, list, word, bits}
@@ -67,3 +68,10 @@ rule = do
     publish = publish;
     exit = exit;
   })
+
+-- a member of a package
+unfoldable pub member : Says Member
+member = do
+  role ← needs the.Role name
+  item ← needs the.Item (whole 4294967295)
+  gives (record { role = role; item = item })

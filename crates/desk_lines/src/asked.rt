@@ -1,6 +1,6 @@
 //! What a line asks for.
 
-use news_types::{Command, Name, Query};
+use news_types::{Command, Name, Query, Text};
 
 /// What a line asks for.
 #[derive(Drop)]
@@ -17,5 +17,10 @@ pub enum Asked {
     Receipt {
         subscriber: Name,
         n: u32,
+    },
+    /// A question on the archive: the page, from 0, of what this query finds.
+    Archive {
+        page: u32,
+        query: Text,
     },
 }

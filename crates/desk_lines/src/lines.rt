@@ -1,7 +1,8 @@
 //! Lines are read.
-ghost use Rattle.std.specs.Prelude.{◌≡◌, Some, None, Ok, IfOk};
+ghost use Rattle.std.specs.Prelude.{◌≡◌, Some, None, Ok, IfOk, IsTrue};
 ghost use Rattle.serde_json.specs.View.{view};
 ghost use Rattle.news_types.specs.Fits.{FitsStory};
+ghost use Rattle.package_members.specs.Members.{make_package};
 ghost use Rattle.desk_lines.specs.Reading.{IsRead, IsReadAs, json_of};
 ghost use Rattle.desk_lines.specs.Lines as said;
 ghost use Rattle.desk_lines.specs.Lines.{FitsAsked};
@@ -9,9 +10,10 @@ ghost use Rattle.desk_lines.specs.Lines.{FitsAsked};
 use crate::asked::Asked;
 use crate::commands::{command, item};
 use crate::fields::{given, needs_any_text, needs_name, needs_whole};
-use crate::objects::story_of;
+use crate::objects::{each, story_of};
 use crate::property::{LineFault, LineProperty};
-use news_types::{Name, Query, Story};
+use news_types::{Name, Query, Story, Text};
+use package_members::{Members, makes_package};
 use serde_json::Value;
 use std::alloc::Global;
 
@@ -69,6 +71,106 @@ pub fn read_story(alloc: Global, object: &[u8]) -> Result<Story, LineFault>
     story_of(alloc, &found)
 }
 
+/// Reads a question on the archive: an object with `page` and `query`. How long the query is, and whether it is one, is not
+/// judged here.
+///
+/// # Errors
+///
+/// As those of `read_line`.
+pub fn read_archive_body(alloc: Global, body: &[u8]) -> Result<Asked, LineFault>
+    ensures value { IsRead (said.archive_body body.now) result }
+    ensures fits { IfOk result FitsAsked }
+{
+    let object = object_in(alloc, body)?;
+    archive(alloc, &object)
+}
+
+/// A package as an object has it: a story, and the members.
+#[derive(Drop)]
+pub struct Described {
+    pub story: Story,
+    pub members: Members,
+}
+
+/// A package that a caller asks for by a number.
+#[derive(Drop)]
+pub struct PackageRequest {
+    pub number: u64,
+    pub described: Described,
+}
+
+/// Reads an object with a story's properties and `members`, a list of objects with `role` and `item`, of which a package can
+/// be made.
+///
+/// # Errors
+///
+/// As those of `read_line`: the story's properties come first, then whether `members` is a list of objects, then what stands
+/// in it, one object after another, and last, as `members`, whether a package can be made of these.
+pub fn read_package(alloc: Global, object: &[u8]) -> Result<Described, LineFault>
+    ensures value { IsRead (said.package_object object.now) result }
+    ensures fits { IfOk result (λ read. FitsStory read.story) }
+    ensures made { IfOk result (λ read. IsTrue (make_package read.members)) }
+{
+    let found = object_in(alloc, object)?;
+    package_of(alloc, &found)
+}
+
+/// Reads the object of a package with a `number` beside: the number comes first.
+///
+/// # Errors
+///
+/// As those of `read_package`.
+pub fn read_package_body(alloc: Global, body: &[u8]) -> Result<PackageRequest, LineFault>
+    ensures value { IsRead (said.package_body body.now) result }
+    ensures fits { IfOk result (λ read. FitsStory read.described.story) }
+    ensures made { IfOk result (λ read. IsTrue (make_package read.described.members)) }
+{
+    let object = object_in(alloc, body)?;
+    package_request(alloc, &object)
+}
+
+/// A package and its number.
+#[tactic(auto, unfolding(crate::specs::Lines::package_request))]
+fn package_request(alloc: Global, object: &Value) -> Result<PackageRequest, LineFault>
+    ensures value { IsRead (said.package_request (view object.now)) result }
+    ensures fits { IfOk result (λ read. FitsStory read.described.story) }
+    ensures made { IfOk result (λ read. IsTrue (make_package read.described.members)) }
+{
+    Ok(PackageRequest {
+        number: needs_whole(object, LineProperty::Number, u64::MAX)?,
+        described: package_of(alloc, object)?,
+    })
+}
+
+/// What an object says of a package.
+#[tactic(auto, unfolding(crate::specs::Lines::described))]
+fn package_of(alloc: Global, object: &Value) -> Result<Described, LineFault>
+    ensures value { IsRead (said.described (view object.now)) result }
+    ensures fits { IfOk result (λ read. FitsStory read.story) }
+    ensures made { IfOk result (λ read. IsTrue (make_package read.members)) }
+{
+    Ok(Described {
+        story: story_of(alloc, object)?,
+        members: members_of(alloc, object)?,
+    })
+}
+
+/// Members of which a package can be made.
+#[tactic(auto, unfolding(crate::specs::Lines::members))]
+fn members_of(alloc: Global, object: &Value) -> Result<Members, LineFault>
+    ensures value { IsRead (said.members (view object.now)) result }
+    ensures made { IfOk result (λ found. IsTrue (make_package found)) }
+{
+    let found = Members::of(each(alloc, object, LineProperty::Members, LONGEST_LINE)?);
+    if makes_package(found.as_slice()) {
+        Ok(found)
+    } else {
+        Err(LineFault::Bad {
+            property: LineProperty::Members,
+        })
+    }
+}
+
 /// The object of a line.
 #[tactic(auto, unfolding(crate::specs::Lines::object_in))]
 fn object_in(alloc: Global, bytes: &[u8]) -> Result<Value, LineFault>
@@ -112,7 +214,7 @@ fn any(alloc: Global, object: &Value) -> Result<Asked, LineFault>
         return request(alloc, object);
     }
     if given(object, LineProperty::Ask).is_some() {
-        return Ok(question(object)?);
+        return question(alloc, object);
     }
     if given(object, LineProperty::Receipt).is_some() {
         return Ok(receipt(object)?);
@@ -161,8 +263,8 @@ fn request_of(alloc: Global, caller: Name, object: &Value) -> Result<Asked, Line
 }
 
 #[tactic(auto, unfolding(crate::specs::Lines::question))]
-fn question(object: &Value) -> Result<Asked, LineProperty>
-    ensures value { result ≡ said.question (view object.now) }
+fn question(alloc: Global, object: &Value) -> Result<Asked, LineFault>
+    ensures value { IsRead (said.question (view object.now)) result }
     ensures fits { IfOk result FitsAsked }
 {
     match needs_any_text(object, LineProperty::Ask)? {
@@ -175,8 +277,25 @@ fn question(object: &Value) -> Result<Asked, LineProperty>
         })),
         "queue" => Ok(Asked::Query(Query::Queue)),
         "check" => Ok(Asked::Query(Query::Check)),
-        _ => Err(LineProperty::Ask),
+        "archive" => archive(alloc, object),
+        _ => Err(LineFault::Bad {
+            property: LineProperty::Ask,
+        }),
     }
+}
+
+/// A question on the archive.
+#[tactic(auto, unfolding(crate::specs::Lines::archive))]
+fn archive(alloc: Global, object: &Value) -> Result<Asked, LineFault>
+    ensures value { IsRead (said.archive (view object.now)) result }
+    ensures fits { IfOk result FitsAsked }
+{
+    let page = needs_whole(object, LineProperty::Page, 4294967295)? as u32;
+    let query = needs_any_text(object, LineProperty::Query)?;
+    Ok(Asked::Archive {
+        page,
+        query: Text::copy_of(alloc, query)?,
+    })
 }
 
 #[tactic(auto, unfolding(crate::specs::Lines::receipt))]

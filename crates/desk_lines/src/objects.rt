@@ -16,6 +16,7 @@ use crate::fields::{
 use crate::forms::{Bits, Word};
 use crate::property::{LineFault, LineProperty};
 use news_types::{Media, Place, Rule, Statement, Story};
+use package_members::Member;
 use serde_json::Value;
 use std::alloc::Global;
 
@@ -171,6 +172,20 @@ impl Listed for Rule {
             fetch: fetch(object)?,
             publish: may_flag(object, LineProperty::Publish, false)?,
             exit: may_flag(object, LineProperty::Exit, false)?,
+        })
+    }
+}
+
+impl Listed for Member {
+    ghost says = { object_says.member };
+
+    ghost fits = { λ _. Unit {0} };
+
+    #[tactic(auto, unfolding(crate::specs::Objects::member))]
+    fn listed(_: Global, object: &Value) -> Result<Member, LineFault> {
+        Ok(Member {
+            role: needs_name(object, LineProperty::Role)?,
+            item: needs_whole(object, LineProperty::Item, 4294967295)? as u32,
         })
     }
 }

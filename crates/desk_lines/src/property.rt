@@ -66,6 +66,10 @@ pub enum LineProperty {
     Note,
     After,
     N,
+    Page,
+    Query,
+    Members,
+    Role,
 }
 
 /// Why a line is not read.
@@ -172,5 +176,9 @@ pub fn word_of_property(property: LineProperty) -> &'static str
         LineProperty::Note => "note",
         LineProperty::After => "after",
         LineProperty::N => "n",
+        LineProperty::Page => "page",
+        LineProperty::Query => "query",
+        LineProperty::Members => "members",
+        LineProperty::Role => "role",
     }
 }

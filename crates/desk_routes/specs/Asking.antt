@@ -1,21 +1,23 @@
 -- What a request asks, or why it is refused before anything is asked.
-use Rattle.std.specs.Prelude.{◌≡◌, ℕ, Option, Some, None, Result, Ok, Err}
+use Rattle.std.specs.Prelude.{◌≡◌, ℕ, IsTrue, Option, Some, None, Result, Ok, Err}
 use Rattle.news_types.specs.declared.story.Incoming.{Incoming}
 use Rattle.news_types.specs.declared.query.Query.TheVariants as query
 use Rattle.news_types.specs.Names.{Bytes}
-use Rattle.news_types.specs.Fits.{FitsIncoming}
+use Rattle.news_types.specs.Fits.{FitsStory, FitsIncoming}
 use Rattle.news_types.specs.FitsCommands.{FitsCommand}
 use Rattle.desk_lines.specs.declared.asked.Asked.{Asked}
 use Rattle.desk_lines.specs.declared.asked.Asked.TheVariants as line
+use Rattle.desk_lines.specs.declared.lines.PackageRequest.{PackageRequest}
 use Rattle.desk_lines.specs.declared.property.LineProperty.{LineProperty}
-use Rattle.desk_lines.specs.Lines.{request_body, receipt_body}
+use Rattle.desk_lines.specs.Lines.{request_body, receipt_body, archive_body, package_body}
+use Rattle.package_members.specs.Members.{make_package}
 use Rattle.ninjs_text.specs.declared.fault.NinjsFault.{NinjsFault}
 use Rattle.ninjs_text.specs.Item.{ninjs}
 use Rattle.http_wire.specs.declared.request.HttpRequest.{HttpRequest}
 use Rattle.desk_routes.specs.declared.route.Route.{Route}
 use Rattle.desk_routes.specs.declared.route.Route.TheVariants as the
 use Rattle.desk_routes.specs.declared.ask.HttpAsk.{HttpAsk}
-use Rattle.desk_routes.specs.declared.ask.HttpAsk.TheVariants.{Request, Query, Receipt, Ingest}
+use Rattle.desk_routes.specs.declared.ask.HttpAsk.TheVariants.{Request, Query, Receipt, Ingest, Archive, Package}
 use Rattle.desk_routes.specs.declared.ask.Asking.{Asking}
 use Rattle.desk_routes.specs.declared.ask.Refusal.{Refusal}
 use Rattle.desk_routes.specs.declared.ask.Refusal.TheVariants.{NoRoute, NoCaller, BadPath, BadBody, BadItem, Memory}
@@ -53,6 +55,7 @@ abbrev pub of_line : Asked → HttpAsk
 of_line (line.Request caller number command) = Request caller number command
 of_line (line.Query question) = Query question
 of_line (line.Receipt subscriber n) = Receipt subscriber n
+of_line (line.Archive page query) = Archive page query
 
 abbrev pub from_line : Result Asked LineProperty → Result HttpAsk Refusal
 from_line (Ok asked) = Ok (of_line asked)
@@ -61,6 +64,10 @@ from_line (Err property) = Err (BadBody property)
 abbrev pub from_item : Bytes → Result Incoming NinjsFault → Result HttpAsk Refusal
 from_item provider (Ok incoming) = Ok (Ingest provider incoming)
 from_item provider (Err fault) = Err (BadItem fault)
+
+abbrev pub from_package : Bytes → Result PackageRequest LineProperty → Result HttpAsk Refusal
+from_package caller (Ok read) = Ok (Package caller read.number read.described)
+from_package caller (Err property) = Err (BadBody property)
 
 -- ---- each route
 
@@ -95,6 +102,14 @@ ingest_ask path body = do
   provider ← name_at 2 path
   from_item provider (ninjs body)
 
+-- the object of a question on the archive
+abbrev pub archive_ask : Bytes → Result HttpAsk Refusal
+archive_ask body = from_line (archive_body body)
+
+-- the object of a package, and its number
+abbrev pub package_ask : Bytes → Bytes → Result HttpAsk Refusal
+package_ask caller body = from_package caller (package_body body)
+
 -- what a caller asks by a route: with this path and this body
 abbrev pub ask_by : Route → Bytes → Bytes → Bytes → Result HttpAsk Refusal
 ask_by the.Requests caller path body = request_ask caller body
@@ -104,6 +119,8 @@ ask_by the.FeedAfter caller path body = feed_ask path
 ask_by the.Frame caller path body = frame_ask path
 ask_by the.Receipts caller path body = receipt_ask path body
 ask_by the.Ingest caller path body = ingest_ask path body
+ask_by the.Archive caller path body = archive_ask body
+ask_by the.Packages caller path body = package_ask caller body
 
 -- ---- requests
 
@@ -119,4 +136,5 @@ asking r = do
 abbrev pub FitsAsk : HttpAsk → Type 0
 FitsAsk (Request caller number command) = FitsCommand command
 FitsAsk (Ingest provider incoming) = FitsIncoming incoming
+FitsAsk (Package caller number described) = FitsStory described.story × IsTrue (make_package described.members)
 FitsAsk _ = Unit {0}

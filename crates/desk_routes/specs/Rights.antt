@@ -36,6 +36,9 @@ right_of (ask.Request caller number command) = Anyone
 right_of (ask.Query question) = right_of_query question
 right_of (ask.Receipt subscriber n) = Subscriber subscriber
 right_of (ask.Ingest provider incoming) = Holder privilege.Ingest
+right_of (ask.Archive page query) = User
+-- a user, whose flash is judged by the rules of requests besides
+right_of (ask.Package caller number described) = User
 
 -- ---- how it is found out
 

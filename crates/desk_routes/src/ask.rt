@@ -7,9 +7,12 @@ ghost use Rattle.desk_routes.specs.declared.ask.Refusal.TheVariants.{NoRoute, No
 
 use crate::path::{name_at, number_at};
 use crate::route::{Route, Routes};
-use desk_lines::{Asked, LineFault, LineProperty, read_receipt_body, read_request_body};
+use desk_lines::{
+    Asked, Described, LineFault, LineProperty, read_archive_body, read_package_body,
+    read_receipt_body, read_request_body,
+};
 use http_wire::HttpRequest;
-use news_types::{Command, Incoming, Name, Query};
+use news_types::{Command, Incoming, Name, Query, Text};
 use ninjs_text::NinjsFault;
 use std::alloc::Global;
 
@@ -33,6 +36,17 @@ pub enum HttpAsk {
     Ingest {
         provider: Name,
         incoming: Incoming,
+    },
+    /// A question on the archive: the page, from 0, of what this query finds.
+    Archive {
+        page: u32,
+        query: Text,
+    },
+    /// A package to be published: who asks for it, by which number.
+    Package {
+        caller: Name,
+        number: u64,
+        described: Described,
     },
 }
 
@@ -121,6 +135,8 @@ fn ask_by(
         Route::Frame => frame_ask(path),
         Route::Receipts => receipt_ask(alloc, path, body),
         Route::Ingest => ingest_ask(alloc, path, body),
+        Route::Archive => archive_ask(alloc, body),
+        Route::Packages => package_ask(alloc, caller, body),
     }
 }
 
@@ -203,6 +219,32 @@ fn ingest_ask(alloc: Global, path: &str, body: &[u8]) -> Result<HttpAsk, Refusal
     }
 }
 
+fn archive_ask(alloc: Global, body: &[u8]) -> Result<HttpAsk, Refusal>
+    ensures value { IsSaid (said.archive_ask body.now) result }
+    ensures fits { IfOk result FitsAsk }
+{
+    match read_archive_body(alloc, body) {
+        Ok(asked) => Ok(of_line(asked)),
+        Err(LineFault::Bad { property }) => Err(Refusal::BadBody { property }),
+        Err(LineFault::Memory) => Err(Refusal::Memory),
+    }
+}
+
+fn package_ask(alloc: Global, caller: Name, body: &[u8]) -> Result<HttpAsk, Refusal>
+    ensures value { IsSaid (said.package_ask caller body.now) result }
+    ensures fits { IfOk result FitsAsk }
+{
+    match read_package_body(alloc, body) {
+        Ok(read) => Ok(HttpAsk::Package {
+            caller,
+            number: read.number,
+            described: read.described,
+        }),
+        Err(LineFault::Bad { property }) => Err(Refusal::BadBody { property }),
+        Err(LineFault::Memory) => Err(Refusal::Memory),
+    }
+}
+
 fn of_line(asked: Asked) -> HttpAsk
     ensures { result ≡ said.of_line asked }
 {
@@ -218,5 +260,6 @@ fn of_line(asked: Asked) -> HttpAsk
         },
         Asked::Query(query) => HttpAsk::Query(query),
         Asked::Receipt { subscriber, n } => HttpAsk::Receipt { subscriber, n },
+        Asked::Archive { page, query } => HttpAsk::Archive { page, query },
     }
 }

@@ -16,7 +16,7 @@ pub use ask::{Asking, HttpAsk, Refusal};
 pub use laws::paths_law;
 pub use response::{
     Media, Notice, Response, notify, refuse, respond_answer, respond_denial, respond_reply,
-    status_of_denial,
+    status_of_denial, told_as,
 };
 pub use rights::{Gate, Right, allows, gate_of, right_of};
 pub use route::{Route, Routes};

@@ -72,7 +72,8 @@ impl Notice {
     }
 }
 
-fn told_as(status: u16, body: Bytes) -> Response
+/// The response of this status whose body is an answer. It takes no memory.
+pub fn told_as(status: u16, body: Bytes) -> Response
     ensures { result ≡ said.told_as status body }
 {
     Response {

@@ -1,6 +1,6 @@
 //! The routes of requests.
 ghost use Rattle.std.specs.Prelude.{◌≡◌, IfOk, OnOk};
-ghost use Rattle.desk_routes.specs.Routes.{if_method, method_of, pattern_of, route_of, routed, seven, with_route};
+ghost use Rattle.desk_routes.specs.Routes.{if_method, method_of, pattern_of, route_of, routed, nine, with_route};
 
 use http::Method;
 use matchit::Router;
@@ -18,6 +18,8 @@ pub enum Route {
     Frame,
     Receipts,
     Ingest,
+    Archive,
+    Packages,
 }
 
 impl Route {
@@ -33,6 +35,8 @@ impl Route {
             Route::Frame => "/feeds/{subscriber}/frames/{k}",
             Route::Receipts => "/feeds/{subscriber}/receipts",
             Route::Ingest => "/ingest/{provider}/ninjs",
+            Route::Archive => "/archive",
+            Route::Packages => "/packages",
         }
     }
 
@@ -41,7 +45,11 @@ impl Route {
         ensures { result.now ≡ method_of self }
     {
         match self {
-            Route::Requests | Route::Receipts | Route::Ingest => "POST",
+            Route::Requests
+            | Route::Receipts
+            | Route::Ingest
+            | Route::Archive
+            | Route::Packages => "POST",
             Route::Item | Route::Queue | Route::FeedAfter | Route::Frame => "GET",
         }
     }
@@ -57,9 +65,9 @@ fn put(router: &mut Router<Route>, route: Route) -> Result<(), Memory>
     }
 }
 
-/// The router of the seven routes.
+/// The router of the nine routes.
 fn router_of_all(alloc: Global) -> Result<Router<Route>, Memory>
-    ensures { IfOk result (λ router. router ≡ seven) }
+    ensures { IfOk result (λ router. router ≡ nine) }
 {
     let mut router = Router::new(alloc);
     put(&mut router, Route::Requests)?;
@@ -69,12 +77,14 @@ fn router_of_all(alloc: Global) -> Result<Router<Route>, Memory>
     put(&mut router, Route::Frame)?;
     put(&mut router, Route::Receipts)?;
     put(&mut router, Route::Ingest)?;
+    put(&mut router, Route::Archive)?;
+    put(&mut router, Route::Packages)?;
     Ok(router)
 }
 
 /// The route of a path.
 fn route_at(router: &Router<Route>, path: &str) -> Option<Route>
-    requires { router.now ≡ seven }
+    requires { router.now ≡ nine }
     ensures { result ≡ route_of path.now }
 {
     match router.at(path) {
@@ -83,7 +93,7 @@ fn route_at(router: &Router<Route>, path: &str) -> Option<Route>
     }
 }
 
-/// The seven routes by their paths: made once, for any number of requests.
+/// The nine routes by their paths: made once, for any number of requests.
 #[derive(Drop)]
 pub struct Routes {
     alloc: Global,
@@ -92,13 +102,13 @@ pub struct Routes {
 
 impl Model for Routes {
     ghost use Rattle.std.specs.Prelude.{◌≡◌};
-    ghost use Rattle.desk_routes.specs.Routes.{seven};
+    ghost use Rattle.desk_routes.specs.Routes.{nine};
 
     ghost Value = { Unit {0} };
 
     ghost view = { λ a. tt };
 
-    ghost invariant = { λ a. a.router ≡ seven };
+    ghost invariant = { λ a. a.router ≡ nine };
 }
 
 impl Routes {

@@ -30,7 +30,7 @@ module _ {K : Type 0} (keeper : KeeperMeaning K) (old new : Room K) (b : Book) (
   told_any false told = told
 
   -- what was tried is told
-  told_as : (was tells : Bool) → (was ≡ true → tells ≡ true) → ToldStep keeper old new b should more was → ToldStep keeper old new b should more tells
+  pub told_as : (was tells : Bool) → (was ≡ true → tells ≡ true) → ToldStep keeper old new b should more was → ToldStep keeper old new b should more tells
   told_as false tells so told = told_any tells told
   told_as true tells so told = subst (λ (f : Bool). ToldStep keeper old new b should more f) (sym (so refl)) told
 

@@ -5,6 +5,8 @@ pub mod Coming
 pub mod Doubts
 pub mod Calling
 pub mod Questions
+pub mod Searches
+pub mod Packages
 pub mod Callers
 pub mod ReadAs
 pub mod Requests

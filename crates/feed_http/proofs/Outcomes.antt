@@ -1,6 +1,7 @@
 -- Each outcome, by what is asked.
-use Rattle.std.proofs.Common.{◌≡◌, ℕ, cond, Ok, Err, refl, ap}
+use Rattle.std.proofs.Common.{◌≡◌, ℕ, cond, List, [], ◌∷◌, length, Ok, Err, refl, ap, ◌∙◌}
 use Rattle.news_types.specs.declared.command.Command.{Command}
+use Rattle.news_types.specs.declared.command.Command.TheVariants.{Flash}
 use Rattle.news_types.specs.declared.story.Incoming.{Incoming}
 use Rattle.news_types.specs.declared.query.Query.{Query}
 use Rattle.news_types.specs.declared.query.Answer.{Answer as Told}
@@ -12,6 +13,11 @@ use Rattle.news_types.specs.Outcome.{Outcome, request_at, ingest_at, receipt_at}
 use Rattle.news_types.specs.Outcome as outcome
 use Rattle.news_types.specs.Calls.{ticked}
 use Rattle.news_room.specs.Steps.{tick_entries, entries}
+use Rattle.archive_search.specs.Told.{archive_told}
+use Rattle.package_rules.specs.Composed.{Composed}
+use Rattle.package_rules.specs.Readers.{readers}
+use Rattle.package_rules.specs.Publishing.{flash_of}
+use Rattle.desk_lines.specs.declared.lines.Described.{Described}
 use Rattle.desk_routes.specs.declared.ask.HttpAsk.TheVariants as ask
 use Rattle.desk_routes.specs.declared.ask.Asking.{Asking}
 use Rattle.desk_routes.specs.declared.ask.Refusal.{Refusal}
@@ -20,7 +26,7 @@ use Rattle.desk_routes.specs.declared.response.Notice.TheVariants as notice
 use Rattle.desk_routes.specs.Rights.{right_of, may_ask}
 use Rattle.desk_routes.specs.Responses.{answered_response, answer_response, refusal_response, notice_response}
 use Rattle.http_wire.specs.declared.request.HttpRequest.{HttpRequest}
-use Rattle.feed_http.specs.Outcome.{HttpOutcome, ask_outcome, asking_outcome, read_outcome, unasked, asks, http}
+use Rattle.feed_http.specs.Outcome.{HttpOutcome, archive_response, no_readers_response, package_of, flash_outcome, package_outcome, with_tick, ask_outcome, asking_outcome, read_outcome, unasked, asks, http}
 
 abbrev pub replied : Outcome outcome.Answered → HttpOutcome
 replied o = record { response = answered_response o.answer; adds = entries o.more }
@@ -51,6 +57,34 @@ questioned write h m question = record { response = answer_to write (ticked h m)
 pub asked : (write : Writer) (h : History) (question : Query) (m : ℕ) → ask_outcome write h (ask.Query question) m ≡ questioned write h m question
 unfolding ask_outcome answer_to
 asked write h question m = refl
+
+-- what is found in the archive of the list behind a tick
+abbrev pub searched : History → ℕ → ℕ → Bytes → HttpOutcome
+searched h m page query = record { response = archive_response (archive_told (ticked h m) page query); adds = tick_entries h m }
+
+pub searches : (write : Writer) (h : History) (page : ℕ) (query : Bytes) (m : ℕ) → ask_outcome write h (ask.Archive page query) m ≡ searched h m page query
+unfolding ask_outcome
+searches write h page query m = refl
+
+pub packages : (write : Writer) (h : History) (caller : Bytes) (number : ℕ) (described : Described) (m : ℕ) → ask_outcome write h (ask.Package caller number described) m ≡ with_tick h m (package_outcome write (ticked h m) m caller number (package_of described))
+unfolding ask_outcome
+packages write h caller number described m = refl
+
+by_readers : (write : Writer) (g : History) (m : ℕ) (caller : Bytes) (number : ℕ) (p : Composed) → package_outcome write g m caller number p ≡ flash_outcome write g m caller number p (readers g p.members)
+unfolding package_outcome
+by_readers write g m caller number p = refl
+
+-- nobody has every member
+pub without_readers : (write : Writer) (g : History) (m : ℕ) (caller : Bytes) (number : ℕ) (p : Composed) → readers g p.members ≡ [] → package_outcome write g m caller number p ≡ unasked (no_readers_response (length g))
+without_readers write g m caller number p none = by_readers write g m caller number p ∙ ap (λ (to : List Bytes). flash_outcome write g m caller number p to) none
+
+flashed_to : (write : Writer) (g : History) (m : ℕ) (caller : Bytes) (number : ℕ) (p : Composed) (to : List Bytes) → (to ≡ [] → ⊥) → flash_outcome write g m caller number p to ≡ replied (request_at g caller number (Flash p.story to) m)
+flashed_to write g m caller number p [] some = absurd (some refl)
+flashed_to write g m caller number p (reader ∷ more) some = refl
+
+-- the flash to the readers
+pub with_readers : (write : Writer) (g : History) (m : ℕ) (caller : Bytes) (number : ℕ) (p : Composed) → (readers g p.members ≡ [] → ⊥) → package_outcome write g m caller number p ≡ replied (request_at g caller number (flash_of p g) m)
+with_readers write g m caller number p some = by_readers write g m caller number p ∙ flashed_to write g m caller number p (readers g p.members) some
 
 pub judged : (write : Writer) (h : History) (a : Asking) (m : ℕ) → asking_outcome write h a m ≡ cond (may_ask h a.caller (right_of a.ask)) (ask_outcome write h a.ask m) (unasked (notice_response notice.Forbidden))
 unfolding asking_outcome

@@ -37,24 +37,24 @@ use Rattle.feed_http.proofs.Doubts.{told_any, told_by}
 abbrev pub IsKeptOrStill : tick.Ticked → Type 0
 IsKeptOrStill t = ((place : ℕ) × (t ≡ tick.Ticked.Kept place)) ⊎ (t ≡ tick.Ticked.Still)
 
-abbrev is_passed : tick.Ticked → Bool
+abbrev pub is_passed : tick.Ticked → Bool
 is_passed (tick.Ticked.Kept place) = true
 is_passed tick.Ticked.Still = true
 is_passed tick.Ticked.Fault = false
 is_passed (tick.Ticked.Full size count) = false
 
-passed_on : (t : tick.Ticked) → IsKeptOrStill t → is_passed t ≡ true
+pub passed_on : (t : tick.Ticked) → IsKeptOrStill t → is_passed t ≡ true
 passed_on t (inl kept) = ap is_passed kept.1
 passed_on t (inr still) = ap is_passed still
 
 -- it has kept what follows
-tick_given : (n : Beside) (b : Book) (now : ℕ) (more : List Entry) (t : tick.Ticked) → is_passed t ≡ true → TickStep n b now more t → Given n LIMIT (tick_entries b.list (moment_at b.list now)) more
+pub tick_given : (n : Beside) (b : Book) (now : ℕ) (more : List Entry) (t : tick.Ticked) → is_passed t ≡ true → TickStep n b now more t → Given n LIMIT (tick_entries b.list (moment_at b.list now)) more
 tick_given n b now more (tick.Ticked.Kept place) is step = step.2
 tick_given n b now more tick.Ticked.Still is step = step.1
 tick_given n b now more tick.Ticked.Fault is step = absurd (false≢true is)
 tick_given n b now more (tick.Ticked.Full size count) is step = absurd (false≢true is)
 
-never_fails : (t : tick.Ticked) → is_passed t ≡ true → is_failure (said_tick t) ≡ false
+pub never_fails : (t : tick.Ticked) → is_passed t ≡ true → is_failure (said_tick t) ≡ false
 never_fails (tick.Ticked.Kept place) is = refl
 never_fails tick.Ticked.Still is = refl
 never_fails tick.Ticked.Fault is = absurd (false≢true is)
@@ -66,7 +66,7 @@ behind_one : (o : Option Entry) (h : History) → followed_by (entries o) h ≡ 
 behind_one None h = refl
 behind_one (Some e) h = refl
 
-behind_tick : (n : Beside) (b : Book) (now : ℕ) (more : List Entry) → Given n LIMIT (tick_entries b.list (moment_at b.list now)) more → followed_by more b.list ≡ ticked b.list (moment_at b.list now)
+pub behind_tick : (n : Beside) (b : Book) (now : ℕ) (more : List Entry) → Given n LIMIT (tick_entries b.list (moment_at b.list now)) more → followed_by more b.list ≡ ticked b.list (moment_at b.list now)
 behind_tick n b now more given = ap (λ (l : List Entry). followed_by l b.list) given.whole.is ∙ behind_one (follow b.list Ticked (moment_at b.list now)) b.list
 
 -- ---- what the question is answered there

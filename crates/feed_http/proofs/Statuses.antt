@@ -1,8 +1,10 @@
 -- The status of each outcome.
-use Rattle.std.proofs.Common.{◌≡◌, inl, inr, ℕ, Bool, true, false, cond, List, [], ◌∷◌, ◌++◌, Option, Some, None, Ok, Err, refl, sym, ap, ◌∙◌, subst}
+use Rattle.std.proofs.Common.{◌≡◌, ◌⊎◌, inl, inr, ℕ, Bool, true, false, cond, List, [], ◌∷◌, ◌++◌, Option, Some, None, Ok, Err, refl, sym, ap, ◌∙◌, subst}
 use Rattle.std.proofs.lemmas.Bool.{false≢true}
 use Rattle.std.specs.Prelude.{Result, ◌==◌}
 use Rattle.news_types.specs.declared.entry.Entry.{Entry}
+use Rattle.news_types.specs.declared.entry.Act.TheVariants.{Advance}
+use Rattle.news_types.specs.declared.command.Command.TheVariants.{Flash}
 use Rattle.news_types.specs.declared.denial.Denial.{Denial}
 use Rattle.news_types.specs.declared.denial.Denial.TheVariants.{UnknownUser, NoPrivilege, UnknownThing, NotMember}
 use Rattle.news_types.specs.declared.query.Answer.{Answer as Told}
@@ -11,13 +13,20 @@ use Rattle.news_types.specs.History.{History, moment_at}
 use Rattle.news_types.specs.Names.{Bytes}
 use Rattle.news_types.specs.Frames.{Writer, frame_bytes_at}
 use Rattle.news_types.specs.Answers.{query_answer}
-use Rattle.news_types.specs.Calls.{ticked}
+use Rattle.news_types.specs.Legal.{some_waits}
+use Rattle.news_types.specs.Calls.{entry_if, ticked}
 use Rattle.news_types.specs.Outcome.{Answered, Done, Repeat, Denied, request_at, ingest_at, receipt_at}
 use Rattle.ninjs_text.specs.declared.fault.NinjsFault.{NinjsFault}
 use Rattle.news_types.specs.declared.story.Incoming.{Incoming}
 use Rattle.desk_lines.specs.declared.asked.Asked.{Asked}
 use Rattle.desk_lines.specs.declared.property.LineProperty.{LineProperty}
-use Rattle.desk_lines.specs.Lines.{request_body, receipt_body}
+use Rattle.desk_lines.specs.declared.lines.PackageRequest.{PackageRequest}
+use Rattle.desk_lines.specs.Lines.{request_body, receipt_body, archive_body, package_body}
+use Rattle.archive_search.specs.declared.told.Told as archive
+use Rattle.archive_search.specs.declared.told.Told.TheVariants.{Found, Refused}
+use Rattle.archive_search.specs.Told.{archive_told}
+use Rattle.package_rules.specs.Composed.{Composed}
+use Rattle.package_rules.specs.Readers.{readers}
 use Rattle.ninjs_text.specs.Item.{ninjs}
 use Rattle.news_room.specs.Beside.{Beside}
 use Rattle.news_room.specs.Steps.{entries}
@@ -30,12 +39,12 @@ use Rattle.desk_routes.specs.declared.ask.Asking.{Asking}
 use Rattle.desk_routes.specs.declared.ask.Refusal.{Refusal}
 use Rattle.desk_routes.specs.declared.ask.Refusal.TheVariants.{NoRoute, NoCaller, BadPath, BadBody, BadItem, Memory}
 use Rattle.desk_routes.specs.declared.response.Response.{Response}
-use Rattle.desk_routes.specs.Asking.{◌>>=◌, or_refused, name_at, number_at, from_line, from_item, ask_by}
+use Rattle.desk_routes.specs.Asking.{◌>>=◌, or_refused, name_at, number_at, from_line, from_item, from_package, ask_by}
 use Rattle.desk_routes.specs.Rights.{right_of, may_ask}
 use Rattle.desk_routes.specs.Responses.{denial_status, answered_response, answer_response, refusal_response}
-use Rattle.feed_http.specs.Outcome.{HttpOutcome, ask_outcome, asking_outcome, read_outcome, asks, http}
+use Rattle.feed_http.specs.Outcome.{HttpOutcome, archive_response, package_of, flash_outcome, package_outcome, ask_outcome, asking_outcome, read_outcome, asks, http}
 use Rattle.feed_http.specs.Turn.{Comes, whole, full, failed, starved}
-use Rattle.feed_http.specs.Laws.{is_given, IsToldBy}
+use Rattle.feed_http.specs.Laws.{is_given, is_package, reads_package, asks_package, IsBefore, IsToldBy}
 
 -- ---- no request is refused for want of memory by its definition
 
@@ -65,6 +74,10 @@ item_none : (provider : Bytes) (read : Result Incoming NinjsFault) → NoMemory 
 item_none provider (Ok incoming) = tt
 item_none provider (Err fault) = tt
 
+package_none : (caller : Bytes) (read : Result PackageRequest LineProperty) → NoMemory (from_package caller read)
+package_none caller (Ok request) = tt
+package_none caller (Err property) = tt
+
 ask_none : (route : Route) (caller path body : Bytes) → NoMemory (ask_by route caller path body)
 ask_none the.Requests caller path body = line_none (request_body caller body)
 ask_none the.Item caller path body = then_none (number_at 2 path) _ (path_none _) (λ item. tt)
@@ -73,6 +86,8 @@ ask_none the.FeedAfter caller path body = then_none (name_at 2 path) _ (path_non
 ask_none the.Frame caller path body = then_none (name_at 2 path) _ (path_none _) (λ s. then_none (number_at 4 path) _ (path_none _) (λ k. tt))
 ask_none the.Receipts caller path body = then_none (name_at 2 path) _ (path_none _) (λ s. line_none (receipt_body s body))
 ask_none the.Ingest caller path body = then_none (name_at 2 path) _ (path_none _) (λ p. item_none p (ninjs body))
+ask_none the.Archive caller path body = line_none (archive_body body)
+ask_none the.Packages caller path body = package_none caller (package_body body)
 
 route_none : (found : Option Route) → NoMemory (or_refused NoRoute found)
 route_none None = tt
@@ -117,12 +132,23 @@ refusal_given (BadBody property) none = refl
 refusal_given (BadItem fault) none = refl
 refusal_given Memory none = absurd none
 
+found_given : (t : archive.Told) → HasStatus (archive_response t)
+found_given (Found bytes) = refl
+found_given (Refused bytes) = refl
+
+flash_given : (write : Writer) (g : History) (m : ℕ) (caller : Bytes) (number : ℕ) (p : Composed) (to : List Bytes) → HasStatus (flash_outcome write g m caller number p to).response
+flash_given write g m caller number p [] = refl
+flash_given write g m caller number p (reader ∷ more) = answered_given (request_at g caller number (Flash p.story (reader ∷ more)) m).answer
+
 ask_given : (write : Writer) (h : History) (a : HttpAsk) (m : ℕ) → HasStatus (ask_outcome write h a m).response
-unfolding ask_outcome
+unfolding ask_outcome package_outcome
 ask_given write h (ask.Request caller number command) m = answered_given (request_at h caller number command m).answer
 ask_given write h (ask.Query question) m = told_given (query_answer (frame_bytes_at write (ticked h m)) (ticked h m) question)
 ask_given write h (ask.Receipt subscriber n) m = answered_given (receipt_at h subscriber n m).answer
 ask_given write h (ask.Ingest provider incoming) m = answered_given (ingest_at h provider incoming m).answer
+ask_given write h (ask.Archive page query) m = found_given (archive_told (ticked h m) page query)
+ask_given write h (ask.Package caller number described) m =
+    flash_given write (ticked h m) m caller number (package_of described) (readers (ticked h m) (package_of described).members)
 
 either_given : (b : Bool) (o p : HttpOutcome) → HasStatus o.response → HasStatus p.response → HasStatus (cond b o p).response
 either_given true o p one other = one
@@ -137,40 +163,62 @@ pub outcome_given : (write : Writer) (h : History) (request : HttpRequest) (read
 unfolding http
 outcome_given write h request reading = read_given write h (asks request) (moment_at h reading) (read_none request)
 
--- ---- at most one entry follows
+-- ---- at most one entry follows, or of a package two: the first is its tick's
 
-abbrev HasOne : List Entry → Type 0
-HasOne [] = Unit {0}
-HasOne (e ∷ []) = Unit {0}
-HasOne (e ∷ f ∷ rest) = ⊥
+abbrev HasFew : Bool → List Entry → Type 0
+HasFew package_asked [] = Unit {0}
+HasFew package_asked (e ∷ []) = Unit {0}
+HasFew package_asked (e ∷ f ∷ []) = (package_asked ≡ true) × (e.act ≡ Advance)
+HasFew package_asked (e ∷ f ∷ g ∷ rest) = ⊥
 
-entries_one : (o : Option Entry) → HasOne (entries o)
-entries_one None = tt
-entries_one (Some e) = tt
+entries_few : (b : Bool) (o : Option Entry) → HasFew b (entries o)
+entries_few b None = tt
+entries_few b (Some e) = tt
 
-ask_one : (write : Writer) (h : History) (a : HttpAsk) (m : ℕ) → HasOne (ask_outcome write h a m).adds
-unfolding ask_outcome
-ask_one write h (ask.Request caller number command) m = entries_one _
-ask_one write h (ask.Query question) m = entries_one _
-ask_one write h (ask.Receipt subscriber n) m = entries_one _
-ask_one write h (ask.Ingest provider incoming) m = entries_one _
+-- behind a tick
+tick_few : (waits : Bool) (m : ℕ) (o : Option Entry) → HasFew true (entries (entry_if waits m Advance) ++ entries o)
+tick_few true m None = tt
+tick_few true m (Some e) = (refl, refl)
+tick_few false m None = tt
+tick_few false m (Some e) = tt
 
-either_one : (b : Bool) (o p : HttpOutcome) → HasOne o.adds → HasOne p.adds → HasOne (cond b o p).adds
-either_one true o p one other = one
-either_one false o p one other = other
+flash_few : (write : Writer) (waits : Bool) (g : History) (m : ℕ) (caller : Bytes) (number : ℕ) (p : Composed) (to : List Bytes) → HasFew true (entries (entry_if waits m Advance) ++ (flash_outcome write g m caller number p to).adds)
+flash_few write waits g m caller number p [] = tick_few waits m None
+flash_few write waits g m caller number p (reader ∷ more) = tick_few waits m (request_at g caller number (Flash p.story (reader ∷ more)) m).more
 
-read_one : (write : Writer) (h : History) (read : Result Asking Refusal) (m : ℕ) → HasOne (read_outcome write h read m).adds
+ask_few : (write : Writer) (h : History) (a : HttpAsk) (m : ℕ) → HasFew (is_package a) (ask_outcome write h a m).adds
+unfolding ask_outcome package_outcome
+ask_few write h (ask.Request caller number command) m = entries_few false _
+ask_few write h (ask.Query question) m = entries_few false _
+ask_few write h (ask.Receipt subscriber n) m = entries_few false _
+ask_few write h (ask.Ingest provider incoming) m = entries_few false _
+ask_few write h (ask.Archive page query) m = entries_few false _
+ask_few write h (ask.Package caller number described) m =
+    flash_few write (some_waits h m) (ticked h m) m caller number (package_of described) (readers (ticked h m) (package_of described).members)
+
+either_few : (package_asked b : Bool) (o p : HttpOutcome) → HasFew package_asked o.adds → HasFew package_asked p.adds → HasFew package_asked (cond b o p).adds
+either_few package_asked true o p one other = one
+either_few package_asked false o p one other = other
+
+read_few : (write : Writer) (h : History) (read : Result Asking Refusal) (m : ℕ) → HasFew (reads_package read) (read_outcome write h read m).adds
 unfolding read_outcome asking_outcome
-read_one write h (Ok a) m = either_one (may_ask h a.caller (right_of a.ask)) _ _ (ask_one write h a.ask m) tt
-read_one write h (Err refusal) m = tt
+read_few write h (Ok a) m = either_few (is_package a.ask) (may_ask h a.caller (right_of a.ask)) _ _ (ask_few write h a.ask m) tt
+read_few write h (Err refusal) m = tt
 
-two_at_least : (x : Entry) (xs : List Entry) (next : Entry) (rest : List Entry) → HasOne (x ∷ (xs ++ next ∷ rest)) → ⊥
-two_at_least x [] next rest one = one
-two_at_least x (y ∷ ys) next rest one = one
+-- before the last of them
+before_one : (b : Bool) (more : List Entry) (next : Entry) (rest : List Entry) → HasFew b (more ++ next ∷ rest) → IsBefore b more
+before_one b [] next rest few = tt
+before_one b (e ∷ []) next [] few = few
+before_one b (e ∷ []) next (f ∷ rest) few = absurd few
+before_one b (e ∷ f ∷ []) next rest few = absurd few
+before_one b (e ∷ f ∷ g ∷ more) next rest few = absurd few
 
-none_before : (should more : List Entry) (next : Entry) (rest : List Entry) → HasOne should → should ≡ more ++ next ∷ rest → more ≡ []
-none_before should [] next rest one is = refl
-none_before should (x ∷ xs) next rest one is = absurd (two_at_least x xs next rest (subst HasOne is one))
+before_next : (b : Bool) (should more : List Entry) (next : Entry) (rest : List Entry) → HasFew b should → should ≡ more ++ next ∷ rest → IsBefore b more
+before_next b should more next rest few is = before_one b more next rest (subst (HasFew b) is few)
+
+all_or_before : (b : Bool) (should more rest : List Entry) → HasFew b should → should ≡ more ++ rest → (rest ≡ []) ⊎ IsBefore b more
+all_or_before b should more [] few is = inl refl
+all_or_before b should more (next ∷ rest) few is = inr (before_next b should more next rest few is)
 
 -- ---- what a status tells
 
@@ -181,8 +229,8 @@ apart s k given is not = let e : is_given k ≡ true = subst (λ (x : ℕ). is_g
 differs : (test : ℕ → Bool) (s i k : ℕ) → s ≡ i → s ≡ k → test i ≡ true → test k ≡ false → ⊥
 differs test s i k one other holds fails = false≢true (sym fails ∙ ap test (sym other ∙ one) ∙ holds)
 
-tells : (n : Beside) (o : HttpOutcome) (more : List Entry) (response : Response) → HasStatus o.response → HasOne o.adds → Comes n o more response → IsToldBy n o more response
-tells n o more response status one (whole is given) =
+tells : (b : Bool) (n : Beside) (o : HttpOutcome) (more : List Entry) (response : Response) → HasStatus o.response → HasFew b o.adds → Comes n o more response → IsToldBy b n o more response
+tells b n o more response status few (whole is given) =
     let s : HasStatus response = subst HasStatus (sym is) status in
     record {
       given = λ t. (is, given);
@@ -191,37 +239,37 @@ tells n o more response status one (whole is given) =
       starved = λ t. absurd (apart response.status 507 s t refl);
       each = inl (inl s);
     }
-tells n o more response status one (full size count is refused) =
+tells b n o more response status few (full size count is refused) =
     let s : response.status ≡ 508 = ap (λ (r : Response). r.status) is in
     record {
       given = λ t. absurd (apart response.status 508 t s refl);
-      full = λ t. record { none = none_before o.adds more refused.next refused.rest one refused.is; size = size; count = count; refused = refused };
+      full = λ t. record { before = before_next b o.adds more refused.next refused.rest few refused.is; size = size; count = count; refused = refused };
       failed = λ t. absurd (differs (λ x. x == 508) response.status 508 503 s t refl refl);
       starved = λ t. absurd (differs (λ x. x == 508) response.status 508 507 s t refl refl);
       each = inl (inr s);
     }
-tells n o more response status one (failed is lost) =
+tells b n o more response status few (failed is lost) =
     let s : response.status ≡ 503 = ap (λ (r : Response). r.status) is in
     record {
       given = λ t. absurd (apart response.status 503 t s refl);
       full = λ t. absurd (differs (λ x. x == 503) response.status 503 508 s t refl refl);
-      failed = λ t. record { none = none_before o.adds more lost.next lost.rest one lost.is; failed = lost };
+      failed = λ t. record { before = before_next b o.adds more lost.next lost.rest few lost.is; failed = lost };
       starved = λ t. absurd (differs (λ x. x == 503) response.status 503 507 s t refl refl);
       each = inr (inl s);
     }
-tells n o more response status one (starved is either) =
+tells b n o more response status few (starved rest is first given) =
     let s : response.status ≡ 507 = ap (λ (r : Response). r.status) is in
     record {
       given = λ t. absurd (apart response.status 507 t s refl);
       full = λ t. absurd (differs (λ x. x == 507) response.status 507 508 s t refl refl);
       failed = λ t. absurd (differs (λ x. x == 507) response.status 507 503 s t refl refl);
-      starved = λ t. either;
+      starved = λ t. record { rest = rest; is = first; before = all_or_before b o.adds more rest few first; given = given };
       each = inr (inr s);
     }
 
-http_one : (write : Writer) (h : History) (request : HttpRequest) (reading : ℕ) → HasOne (http write h request reading).adds
+http_few : (write : Writer) (h : History) (request : HttpRequest) (reading : ℕ) → HasFew (asks_package request) (http write h request reading).adds
 unfolding http
-http_one write h request reading = read_one write h (asks request) (moment_at h reading)
+http_few write h request reading = read_few write h (asks request) (moment_at h reading)
 
-pub statuses_tell : (n : Beside) (write : Writer) (h : History) (request : HttpRequest) (reading : ℕ) (more : List Entry) (response : Response) → Comes n (http write h request reading) more response → IsToldBy n (http write h request reading) more response
-statuses_tell n write h request reading more response came = tells n (http write h request reading) more response (outcome_given write h request reading) (http_one write h request reading) came
+pub statuses_tell : (n : Beside) (write : Writer) (h : History) (request : HttpRequest) (reading : ℕ) (more : List Entry) (response : Response) → Comes n (http write h request reading) more response → IsToldBy (asks_package request) n (http write h request reading) more response
+statuses_tell n write h request reading more response came = tells (asks_package request) n (http write h request reading) more response (outcome_given write h request reading) (http_few write h request reading) came

@@ -1,10 +1,19 @@
 -- What a request over HTTP is answered, and which entries follow the list.
-use Rattle.std.specs.Prelude.{ℕ, nat_lt, List, [], if◌then◌else◌, Option, Some, None, Result, Ok, Err}
+use Rattle.std.specs.Prelude.{ℕ, nat_lt, List, [], ◌∷◌, ◌++◌, length, if◌then◌else◌, Option, Some, None, Result, Ok, Err}
 use Rattle.news_types.specs.declared.entry.Entry.{Entry}
+use Rattle.news_types.specs.declared.command.Command.TheVariants.{Flash}
+use Rattle.news_types.specs.Names.{Bytes}
 use Rattle.news_types.specs.History.{History, moment_at}
 use Rattle.news_types.specs.Frames.{Writer}
 use Rattle.news_types.specs.Calls.{Call, Requested, Ingested, Receipted, Ticked, Asked, Answer, Replied, Tells, Full, Fault, Memory, follow, ticked, answer}
-use Rattle.news_room.specs.Steps.{entries}
+use Rattle.news_room.specs.Steps.{entries, tick_entries}
+use Rattle.archive_search.specs.declared.told.Told as archive
+use Rattle.archive_search.specs.declared.told.Told.TheVariants.{Found, Refused}
+use Rattle.archive_search.specs.Told.{archive_told}
+use Rattle.package_rules.specs.Composed.{Composed, composite}
+use Rattle.package_rules.specs.Readers.{readers}
+use Rattle.package_rules.specs.Report.{no_readers_text}
+use Rattle.desk_lines.specs.declared.lines.Described.{Described}
 use Rattle.http_wire.specs.declared.request.HttpRequest.{HttpRequest}
 use Rattle.desk_routes.specs.declared.ask.HttpAsk.{HttpAsk}
 use Rattle.desk_routes.specs.declared.ask.HttpAsk.TheVariants as ask
@@ -14,7 +23,7 @@ use Rattle.desk_routes.specs.declared.response.Response.{Response}
 use Rattle.desk_routes.specs.declared.response.Notice.TheVariants as notice
 use Rattle.desk_routes.specs.Asking.{asking}
 use Rattle.desk_routes.specs.Rights.{right_of, may_ask}
-use Rattle.desk_routes.specs.Responses.{bare, answered_response, answer_response, refusal_response, notice_response}
+use Rattle.desk_routes.specs.Responses.{bare, told_as, answered_response, answer_response, refusal_response, notice_response}
 
 -- a response, and the entries that follow the list, oldest first
 pub record HttpOutcome : Type 0 where
@@ -33,24 +42,56 @@ response_to Memory = notice_response notice.NoMemory
 -- no request is answered so
 response_to _ = bare 200
 
+-- what a query of the archive is answered: it finds something, be it nothing, or it is none
+abbrev pub archive_response : archive.Told → Response
+archive_response (Found bytes) = told_as 200 bytes
+archive_response (Refused bytes) = told_as 400 bytes
+
+-- a package of which nobody has every member, at a list of so many entries
+abbrev pub no_readers_response : ℕ → Response
+no_readers_response front = told_as 409 (no_readers_text front)
+
 -- ---- what is asked of the room
+
+-- nothing is asked of the room
+abbrev pub unasked : Response → HttpOutcome
+unasked response = record { response = response; adds = [] }
 
 -- a call is answered at the list as it is
 abbrev pub call_outcome : Writer → History → Call → ℕ → HttpOutcome
 call_outcome write h call m = record { response = response_to (answer write h call m); adds = entries (follow h call m) }
 
--- a question comes behind a tick: it is answered at the list which that leaves
+-- ---- packages
+
+-- the package that is described
+abbrev pub package_of : Described → Composed
+package_of described = record { story = composite described.story described.members; members = described.members }
+
+-- a package to these readers, at the list as it is: without any that is told, before every denial, and else its flash to them is requested
+abbrev pub flash_outcome : Writer → History → ℕ → Bytes → ℕ → Composed → List Bytes → HttpOutcome
+flash_outcome write g m caller number p [] = unasked (no_readers_response (length g))
+flash_outcome write g m caller number p (reader ∷ more) = call_outcome write g (Requested caller number (Flash p.story (reader ∷ more))) m
+
+-- to its readers at the list
+unfoldable pub package_outcome : Writer → History → ℕ → Bytes → ℕ → Composed → HttpOutcome
+package_outcome write g m caller number p = flash_outcome write g m caller number p (readers g p.members)
+
+-- ---- each thing that is asked
+
+-- behind a tick: its entry comes first
+abbrev pub with_tick : History → ℕ → HttpOutcome → HttpOutcome
+with_tick h m o = record { response = o.response; adds = tick_entries h m ++ o.adds }
+
+-- A question, a search of the archive and a package come behind a tick: they are answered at the list which that leaves.
 unfoldable pub ask_outcome : Writer → History → HttpAsk → ℕ → HttpOutcome
 ask_outcome write h (ask.Request caller number command) m = call_outcome write h (Requested caller number command) m
 ask_outcome write h (ask.Query question) m = record { response = response_to (answer write (ticked h m) (Asked question) m); adds = entries (follow h Ticked m) }
 ask_outcome write h (ask.Receipt subscriber n) m = call_outcome write h (Receipted subscriber n) m
 ask_outcome write h (ask.Ingest provider incoming) m = call_outcome write h (Ingested provider incoming) m
+ask_outcome write h (ask.Archive page query) m = record { response = archive_response (archive_told (ticked h m) page query); adds = tick_entries h m }
+ask_outcome write h (ask.Package caller number described) m = with_tick h m (package_outcome write (ticked h m) m caller number (package_of described))
 
 -- ---- requests
-
--- nothing is asked of the room
-abbrev pub unasked : Response → HttpOutcome
-unasked response = record { response = response; adds = [] }
 
 -- whether the caller has the right is known by the list as it is, before any tick
 unfoldable pub asking_outcome : Writer → History → Asking → ℕ → HttpOutcome

@@ -1,7 +1,9 @@
 -- What a request's turn makes of a room, and the turn as events of the world.
-use Rattle.std.specs.Prelude.{◌≡◌, ◌⊎◌, ◌==◌, ℕ, Bool, true, List, [], Ok}
+use Rattle.std.specs.Prelude.{◌≡◌, ◌⊎◌, ◌==◌, ℕ, Bool, true, false, List, [], ◌++◌, Result, Ok, Err}
 use Rattle.news_types.specs.declared.entry.Entry.{Entry}
 use Rattle.news_types.specs.declared.query.Query.{Query}
+use Rattle.news_types.specs.declared.Memory.{Memory as NoMemory}
+use Rattle.news_types.specs.Names.{Bytes}
 use Rattle.news_types.specs.History.{moment_at, last_stop}
 use Rattle.news_types.specs.Books.{Book, onto}
 use Rattle.news_types.specs.Calls.{Call, Requested, Ingested, Receipted, Ticked, Asked, Answer, Full, Fault}
@@ -18,9 +20,14 @@ use Rattle.desk_routes.specs.declared.ask.HttpAsk.TheVariants as ask
 use Rattle.desk_routes.specs.declared.ask.Asking.{Asking}
 use Rattle.desk_routes.specs.declared.response.Response.{Response}
 use Rattle.desk_routes.specs.declared.response.Notice.TheVariants as notice
-use Rattle.desk_routes.specs.Responses.{notice_response}
+use Rattle.desk_routes.specs.Responses.{reply_response, denial_response, notice_response}
+use Rattle.archive_search.specs.declared.told.Told as archive
+use Rattle.archive_search.specs.Told.{archive_told}
+use Rattle.package_rules.specs.declared.publish.Packaged.{Packaged}
+use Rattle.package_rules.specs.Composed.{Composed}
+use Rattle.package_rules.specs.Publishing.{flash_of}
 use Rattle.feed_http.specs.declared.answers.HttpAnswer.{HttpAnswer}
-use Rattle.feed_http.specs.Outcome.{HttpOutcome, response_to, ask_outcome, asking_outcome, asks, http, stop_behind}
+use Rattle.feed_http.specs.Outcome.{HttpOutcome, archive_response, no_readers_response, package_of, response_to, ask_outcome, asking_outcome, asks, http, stop_behind}
 
 -- ---- how much of an outcome came
 
@@ -34,13 +41,28 @@ IsTold Full response = response ≡ response_to Full
 IsTold Fault response = response ≡ response_to Fault
 IsTold answer response = IsToldAs (response_to answer) response
 
+-- the response to what a query of the archive is answered
+abbrev pub IsFound : Result archive.Told NoMemory → Response → Type 0
+IsFound (Ok told) response = response ≡ archive_response told
+IsFound (Err why) response = response ≡ notice_response notice.NoMemory
+
+-- the response to what the request to publish a package is answered
+abbrev pub IsPackaged : Packaged → Response → Type 0
+IsPackaged (Packaged.Done reply) response = IsToldAs (reply_response reply false) response
+IsPackaged (Packaged.Repeat reply) response = IsToldAs (reply_response reply true) response
+IsPackaged (Packaged.Denied denial) response = IsToldAs (denial_response denial) response
+IsPackaged (Packaged.NoReaders front) response = IsToldAs (no_readers_response front) response
+IsPackaged Packaged.Fault response = response ≡ notice_response notice.Fault
+IsPackaged (Packaged.Full size count) response = response ≡ notice_response notice.Full
+IsPackaged Packaged.Memory response = response ≡ notice_response notice.NoMemory
+
 -- All entries of the outcome are kept, and its response is given; or its next entry would pass the limit; or the keeper failed at it; or
--- there was no memory, and none or all of them are kept.
+-- there was no memory, and the first of them are kept: where at most one follows, none or all.
 pub data Comes (n : Beside) (o : HttpOutcome) (more : List Entry) (response : Response) : Type 0 where
   whole : response ≡ o.response → Given n (limit_for o.adds) o.adds more → Comes n o more response
   full : (size count : ℕ) → response ≡ notice_response notice.Full → Refused n (limit_for o.adds) o.adds more size count → Comes n o more response
   failed : response ≡ notice_response notice.Fault → Failed n (limit_for o.adds) o.adds more → Comes n o more response
-  starved : response ≡ notice_response notice.NoMemory → Whole n [] more ⊎ Given n (limit_for o.adds) o.adds more → Comes n o more response
+  starved : (rest : List Entry) → response ≡ notice_response notice.NoMemory → o.adds ≡ more ++ rest → Given n (limit_for o.adds) more more → Comes n o more response
 
 -- the response that tells that the keeper failed
 abbrev pub tells_failure : Response → Bool
@@ -49,6 +71,12 @@ tells_failure response = response.status == 503
 -- a request that is read as this
 pub record IsRead (request : HttpRequest) (a : Asking) : Type 0 where
   pub is : asks request ≡ Ok a
+
+-- the archive at a list, behind a tick that was answered so: where the tick was refused nothing is searched
+abbrev pub FindsBehind : Book → ℕ → Bytes → Answer → Response → Type 0
+FindsBehind b page query Full response = response ≡ response_to Full
+FindsBehind b page query Fault response = response ≡ response_to Fault
+FindsBehind b page query answer response = IsToldAs (archive_response (archive_told b.list page query)) response
 
 module _ {K : Type 0} (keeper : KeeperMeaning K) where
   -- ---- the events of a turn
@@ -71,17 +99,49 @@ module _ {K : Type 0} (keeper : KeeperMeaning K) where
     pub event : IsEvent keeper old new b more Ticked now answer
     pub asks : AsksBehind new (onto more b) question now answer response
 
+  -- a tick, and then a search of the list
+  pub record TicksAndFinds (old new : Room K) (b : Book) (more : List Entry) (page : ℕ) (query : Bytes) (now : ℕ) (response : Response) : Type 0 where
+    pub answer : Answer
+    pub event : IsEvent keeper old new b more Ticked now answer
+    pub finds : FindsBehind (onto more b) page query answer response
+
+  -- nothing was asked of the room
+  pub record IsStill (old new : Room K) (more : List Entry) : Type 0 where
+    pub room : new ≡ old
+    pub none : more ≡ []
+
+  -- the flash of a package to its readers; or nothing was asked of the room: nobody has every member, or there was no memory
+  abbrev pub FlashEvents : Room K → Room K → Book → List Entry → Bytes → ℕ → Composed → ℕ → Response → Type 0
+  FlashEvents old new b more caller number p now response = IsStill old new more ⊎ Calls old new b more (Requested caller number (flash_of p b.list)) now response
+
+  -- behind a tick that was answered so: where the tick was refused nothing is flashed
+  abbrev pub FlashesBehind : Room K → Room K → Book → List Entry → Bytes → ℕ → Composed → ℕ → Answer → Response → Type 0
+  FlashesBehind old new b more caller number p now Full response = IsStill old new more × (response ≡ response_to Full)
+  FlashesBehind old new b more caller number p now Fault response = IsStill old new more × (response ≡ response_to Fault)
+  FlashesBehind old new b more caller number p now answer response = FlashEvents old new b more caller number p now response
+
+  -- a tick, and then the flash of a package to its readers at the list behind it
+  pub record TicksAndFlashes (old new : Room K) (b : Book) (more : List Entry) (caller : Bytes) (number : ℕ) (p : Composed) (now : ℕ) (response : Response) : Type 0 where
+    pub mid : Room K
+    pub released : List Entry
+    pub added : List Entry
+    pub more_is : more ≡ released ++ added
+    pub answer : Answer
+    pub event : IsEvent keeper old mid b released Ticked now answer
+    pub flashes : FlashesBehind mid new (onto released b) added caller number p now answer response
+
+  -- what a package's request was, where the package could be made: without memory for that nothing was asked
+  abbrev pub PackageEvents : Room K → Room K → Book → List Entry → Bytes → ℕ → Composed → ℕ → Response → Type 0
+  PackageEvents old new b more caller number p now response = IsStill old new more ⊎ TicksAndFlashes old new b more caller number p now response
+
   -- what is asked of the room
   abbrev pub AskEvents : Room K → Room K → Book → List Entry → HttpAsk → ℕ → Response → Type 0
   AskEvents old new b more (ask.Request caller number command) now response = Calls old new b more (Requested caller number command) now response
   AskEvents old new b more (ask.Query question) now response = TicksAndAsks old new b more question now response
   AskEvents old new b more (ask.Receipt subscriber n) now response = Calls old new b more (Receipted subscriber n) now response
   AskEvents old new b more (ask.Ingest provider incoming) now response = Calls old new b more (Ingested provider incoming) now response
-
-  -- nothing was asked of the room
-  pub record IsStill (old new : Room K) (more : List Entry) : Type 0 where
-    pub room : new ≡ old
-    pub none : more ≡ []
+  AskEvents old new b more (ask.Archive page query) now response = TicksAndFinds old new b more page query now response
+  AskEvents old new b more (ask.Package caller number described) now response = PackageEvents old new b more caller number (package_of described) now response
 
   -- what a caller asks, or nothing was asked of the room
   abbrev pub AskingEvents : Room K → Room K → Book → List Entry → Asking → ℕ → Response → Type 0

@@ -1,25 +1,31 @@
 //! The work of one turn.
-ghost use Rattle.std.specs.Prelude.{◌≡◌, ℕ, IfOk, List};
+ghost use Rattle.std.specs.Prelude.{◌≡◌, ℕ, IfOk, IsTrue, List};
 ghost use Rattle.news_types.specs.declared.entry.Entry.{Entry};
 ghost use Rattle.news_types.specs.Books.{Book};
-ghost use Rattle.news_types.specs.Fits.{FitsIncoming};
+ghost use Rattle.news_types.specs.Fits.{FitsStory, FitsIncoming};
 ghost use Rattle.news_types.specs.FitsCommands.{FitsCommand};
 ghost use Rattle.news_room.specs.Stands.{Stands, SomeBook};
+ghost use Rattle.package_members.specs.Members.{make_package};
 ghost use Rattle.desk_routes.specs.declared.ask.HttpAsk.TheVariants as asked;
 ghost use Rattle.desk_routes.specs.Asking.{FitsAsk};
 ghost use Rattle.desk_routes.specs.Rights.{right_of, may_ask};
-ghost use Rattle.feed_http.specs.Outcome.{stop_behind};
+ghost use Rattle.feed_http.specs.Outcome.{package_of, stop_behind};
 ghost use Rattle.feed_http.specs.Turn.{AskTurn, AskingTurn, RequestTurn, IsAnswered};
 
 use crate::answers::HttpAnswer;
-use crate::telling::{or_no_memory, tell_answer, tell_answered, tell_kept};
+use crate::telling::{
+    or_no_memory, tell_answer, tell_answered, tell_found, tell_kept, tell_packaged,
+};
+use archive_search::tell_archive;
+use desk_lines::Described;
 use desk_routes::{
     Asking, Gate, HttpAsk, Notice, Response, Routes, allows, gate_of, notify, refuse, right_of,
 };
 use http_wire::HttpRequest;
 use news_io::Keeper;
 use news_room::{Room, Ticked};
-use news_types::{Command, Incoming, Memory, Name, Query};
+use news_types::{Command, Incoming, Memory, Name, Query, Text};
+use package_rules::{Package, publish_package};
 use std::alloc::Global;
 
 /// Releases what waits, and then answers a question.
@@ -88,6 +94,60 @@ fn answer_ingest<K: Keeper>(
     tell_answered(alloc, room.ingest(now, provider, incoming))
 }
 
+/// Releases what waits, and then searches a room, the archive.
+#[tactic(none)]
+fn answer_search<K: Keeper>(
+    alloc: Global,
+    archive: &mut Room<K>,
+    now: u64,
+    page: u32,
+    query: &Text,
+) -> Response
+    requires { SomeBook K.keeper archive.old }
+    ensures { (more : List Entry) × ((b : Book) → Stands K.keeper archive.old b → AskTurn K.keeper archive.old archive.new b more (asked.Archive page query.now) now result) }
+{
+    match archive.tick(now) {
+        Ticked::Kept { .. } | Ticked::Still => {
+            tell_found(alloc, tell_archive(alloc, archive, page, query.as_str()))
+        }
+        Ticked::Fault => notify(alloc, Notice::Fault),
+        Ticked::Full { .. } => notify(alloc, Notice::Full),
+    }
+}
+
+/// The package that is described.
+fn described_package(alloc: Global, described: Described) -> Result<Package, Memory>
+    requires fits { FitsStory described.story }
+    requires make { IsTrue (make_package described.members) }
+    ensures { IfOk result (λ made. made ≡ package_of described) }
+{
+    let Described { story, members } = described;
+    match Package::new(alloc, story, members.as_slice())? {
+        Some(made) => Ok(made),
+        None => unreachable!(),
+    }
+}
+
+/// Takes a user's package to the room: behind a tick, to its readers.
+#[tactic(none)]
+fn answer_package<K: Keeper>(
+    alloc: Global,
+    room: &mut Room<K>,
+    now: u64,
+    caller: Name,
+    number: u64,
+    described: Described,
+) -> Response
+    requires stands { SomeBook K.keeper room.old }
+    requires fits { FitsAsk (asked.Package caller number described) }
+    ensures { (more : List Entry) × ((b : Book) → Stands K.keeper room.old b → AskTurn K.keeper room.old room.new b more (asked.Package caller number described) now result) }
+{
+    match described_package(alloc, described) {
+        Ok(made) => tell_packaged(alloc, publish_package(alloc, room, now, caller, number, &made)),
+        Err(_) => notify(alloc, Notice::NoMemory),
+    }
+}
+
 /// Takes to the room what is asked, whose caller has the right to ask it.
 #[tactic(none)]
 fn answer_ask<K: Keeper>(alloc: Global, room: &mut Room<K>, now: u64, ask: HttpAsk) -> Response
@@ -106,6 +166,12 @@ fn answer_ask<K: Keeper>(alloc: Global, room: &mut Room<K>, now: u64, ask: HttpA
         HttpAsk::Ingest { provider, incoming } => {
             answer_ingest(alloc, room, now, provider, incoming)
         }
+        HttpAsk::Archive { page, query } => answer_search(alloc, room, now, page, &query),
+        HttpAsk::Package {
+            caller,
+            number,
+            described,
+        } => answer_package(alloc, room, now, caller, number, described),
     }
 }
 
@@ -183,9 +249,9 @@ fn stop_behind(before: u64, now: u64) -> Option<u64>
 
 /// Answers a request in one turn of a room, at a reading of the clock, in seconds.
 ///
-/// What the request is refused for up to its caller's right is decided by the list as it is, and keeps nothing. A question
-/// comes behind a tick; where that is refused, so is the question. Where there is no memory the status is 507, without a
-/// body; then none or all of the entries are kept that the request has.
+/// What the request is refused for up to its caller's right is decided by the list as it is, and keeps nothing. A question, a
+/// search of the archive and a package come behind a tick; where that is refused, so is what is asked. Where there is no memory
+/// the status is 507, without a body; then none or all of the entries are kept that the request has, or that of a package's tick.
 #[tactic(none)]
 pub fn answer_one<K: Keeper>(
     routes: &Routes,

@@ -3,16 +3,21 @@
 //!
 //! A line that is read is printed as the word of what it asks, behind its caller and number where it is a request. One that
 //! is not is printed as `bad` and its first bad property.
+//!
+//! Three words before an object have it read as what comes by itself: `archive` as a question on the archive, `package` as a
+//! package, and `numbered` as one with its number.
 #![tactic(auto)]
 
 mod answers;
 mod denials;
+mod objects;
 mod words;
 
 use denials::denials;
 use desk_answers::denial_text;
-use desk_lines::{Asked, LineFault, read_line, word_of_property};
+use desk_lines::{Asked, LineFault, read_archive_body, read_line, word_of_property};
 use news_types::{Bytes, Holder, Memory, Name, Place, Query};
+use objects::{print_numbered, print_package};
 use std::io::{self, ErrorKind, Write};
 use words::word_of_command;
 
@@ -38,14 +43,34 @@ fn main(rt: HostRuntime) -> io::Result<()> {
 
 /// Prints what a line is read as.
 fn print_line<R: Print + AllocGlobal>(rt: &R, line: &str) -> io::Result<()> {
-    match read_line(rt.alloc(), line.as_bytes()) {
+    if let Some(object) = line.strip_prefix("archive ") {
+        return print_read(rt, read_archive_body(rt.alloc(), object.as_bytes()));
+    }
+    if let Some(object) = line.strip_prefix("package ") {
+        return print_package(rt, object);
+    }
+    if let Some(object) = line.strip_prefix("numbered ") {
+        return print_numbered(rt, object);
+    }
+    print_read(rt, read_line(rt.alloc(), line.as_bytes()))
+}
+
+fn print_read(rt: &impl Print, read: Result<Asked, LineFault>) -> io::Result<()> {
+    match read {
         Ok(asked) => {
             let printed = print_asked(rt, &asked);
             drop(asked);
             printed
         }
-        Err(LineFault::Bad { property }) => println!(rt; "bad {}", word_of_property(property)),
-        Err(LineFault::Memory) => Err(io::Error::from(ErrorKind::OutOfMemory)),
+        Err(fault) => print_fault(rt, fault),
+    }
+}
+
+/// Prints why a line is not read.
+fn print_fault(rt: &impl Print, fault: LineFault) -> io::Result<()> {
+    match fault {
+        LineFault::Bad { property } => println!(rt; "bad {}", word_of_property(property)),
+        LineFault::Memory => Err(io::Error::from(ErrorKind::OutOfMemory)),
     }
 }
 
@@ -58,6 +83,7 @@ fn print_asked(rt: &impl Print, asked: &Asked) -> io::Result<()> {
         } => println!(rt; "{} {number} {}", caller.as_str(), word_of_command(command)),
         Asked::Query(query) => print_query(rt, query),
         Asked::Receipt { subscriber, n } => println!(rt; "receipt {} {n}", subscriber.as_str()),
+        Asked::Archive { page, query } => println!(rt; "archive {page} [{}]", query.as_str()),
     }
 }
 

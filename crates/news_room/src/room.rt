@@ -21,6 +21,7 @@ use news_types::{Act, Answer, Command, Entry, Incoming, Memory, Moment, Name, Qu
 use newsroom::{Change, Newsroom, Prepared};
 use publications::Published;
 use std::alloc::Global;
+use uuid::Uuid;
 
 /// How many bytes of the log an entry may use that is no stop and no halt.
 pub(crate) const LIMIT: u64 = 1073737728;
@@ -196,6 +197,13 @@ impl<K: Keeper> Room<K> {
         ensures event { (b : Book) (now : ℕ) → Stands K.keeper self.now b → IsEvent K.keeper self.now self.now b [] (Asked query.now) now (said_told result) }
     {
         self.machine.ask(query)
+    }
+
+    /// The identifier of its store.
+    pub fn store(&self) -> Uuid
+        ensures { (b : Book) → Stands K.keeper self.now b → result ≡ b.store }
+    {
+        self.machine.store()
     }
 
     /// What is kept of the publication of that number, if it is there. Nothing is copied.

@@ -63,6 +63,13 @@ impl Newsroom {
         self.entries
     }
 
+    /// The identifier of its store.
+    pub fn store(&self) -> Uuid
+        ensures { result ≡ store_of self.now }
+    {
+        self.store
+    }
+
     /// The place of the last stop or halt, 0 without one.
     pub fn last_stop(&self) -> u64
         ensures { (h : History) → StandsFor self.now h → result ≡ last_stop h }

@@ -79,6 +79,10 @@ fn answer(session: &mut Session, asked: Asked) -> io::Result<Told>
         } => session.request(caller, number, command),
         Asked::Query(query) => session.ask(&query),
         Asked::Receipt { subscriber, n } => session.receipt(subscriber, n),
+        Asked::Archive { page: _, query } => {
+            drop(query);
+            Err(invalid())
+        }
     }
 }
 

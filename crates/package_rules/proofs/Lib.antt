@@ -2,7 +2,6 @@ pub mod Packages
 pub mod Retries
 pub mod Texts
 pub mod Pages
-pub mod Plain
 pub mod Walking
 pub mod Finding
 pub mod Publishing

@@ -6,7 +6,6 @@ pub mod Finding
 pub mod Opening
 pub mod Walking
 pub mod Associations
-pub mod Told
 pub mod Report
 pub mod Promise
 pub mod Publishing

@@ -5,12 +5,12 @@ mod association;
 mod laws;
 mod lines;
 mod marks;
+mod objects;
 mod package;
 mod publish;
 mod readers;
 mod report;
 mod text;
-mod told;
 mod walk;
 
 pub use association::associations;
@@ -19,7 +19,7 @@ pub use lines::{Contents, Line};
 pub use package_members::{Member, Members, makes_package};
 pub use package::Package;
 pub use publish::{Packaged, publish_package};
+pub use objects::{contents_object, no_readers_text};
 pub use report::contents_report;
 pub use text::{named_members, package_text, read_package};
 pub use walk::{contents, members_of};
-

@@ -1,4 +1,4 @@
-//! What a package holds, as text.
+//! What a package holds, as lines.
 ghost use Rattle.std.specs.Prelude.{◌≡◌, ◌++◌, ◌∷◌, [], IfOk, OnOk, string_bytes};
 ghost use Rattle.std.specs.List.{flat_map};
 ghost use Rattle.news_types.specs.Books.{Book};

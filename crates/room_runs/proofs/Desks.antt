@@ -25,6 +25,7 @@ use Rattle.line_run.specs.Life.{Outcome, Meaning, Life, Took, Kept}
 use Rattle.line_run.specs.Step.{IsStep}
 use Rattle.line_run.specs.declared.answering.Stopped.{Stopped}
 use Rattle.line_run.specs.declared.answering.Stopped.TheVariants as stopped
+use Rattle.desk_lines.specs.declared.asked.Asked.{Asked}
 use Rattle.desk_lines.specs.declared.asked.Asked.TheVariants as asked
 use Rattle.desk_lines.specs.declared.property.LineProperty.TheVariants as property
 use Rattle.desk_answers.specs.Answers.{answer_bytes, HasLine}
@@ -88,46 +89,46 @@ tick_given n b now more r (inr still) step = (tick_still n b now more (subst (λ
 pub behind_tick : (h : History) (m : ℕ) → followed_by (tick_entries h m) h ≡ ticked h m
 behind_tick h m = behind_one (follow h call.Ticked m) h
 
-module _ {K C : Type 0} (keeper : KeeperMeaning K) (clock : ClockMeaning C) (s : Shelf) (d d' : LineDesk K C) (h : History) (now : ℕ) (q : Query) (asks : has_answer q ≡ true) where
+-- a question is answered at the list behind its tick
+pub question_means : (before : ℕ) (h : History) (q : Query) (now : ℕ) → has_answer q ≡ true → of_asked before h (asked.Query q) now ≡ adding before h now (answer_bytes (query_answer no_frames (ticked h (moment_at h now)) q)) (tick_entries h (moment_at h now))
+question_means before h q now asks = ap (λ b. if b then of_question before h now q else bad property.Ask) asks
+
+-- what is asked behind a tick, whose text is that of the list which the tick leaves
+module _ {K C : Type 0} (keeper : KeeperMeaning K) (clock : ClockMeaning C) (s : Shelf) (d d' : LineDesk K C) (h : History) (now : ℕ) (x : Asked) (text : History → Bytes)
+    (means : of_asked s.before h x now ≡ adding s.before h now (text (ticked h (moment_at h now))) (tick_entries h (moment_at h now))) where
   abbrev pub tick : Option Entry
   tick = follow h call.Ticked (moment_at h now)
 
-  abbrev pub answer_is : Bytes
-  answer_is = answer_bytes (query_answer no_frames (ticked h (moment_at h now)) q)
-
-  pub can_be_told : of_asked s.before h (asked.Query q) now ≡ adding s.before h now answer_is (entries tick)
-  can_be_told = ap (λ b. if b then of_question s.before h now q else bad property.Ask) asks
-
   abbrev pub TickDid : List Entry → Bool → Type 0
-  TickDid more failed = Called line_hand keeper clock s (of_asked s.before) d d' h now (asked.Query q) answer_is tick can_be_told more failed
+  TickDid more failed = Called line_hand keeper clock s (of_asked s.before) d d' h now x (text (ticked h (moment_at h now))) tick means more failed
 
   -- a tick, and then the answer
-  pub question_step : (more : List Entry) (r : Result (Vec ℕ Global) Stopped) → TickDid more false → Given (numbers keeper d.room.now d'.room.now) LIMIT (entries tick) more
-      → IsText (answer_bytes (query_answer no_frames (followed_by more h) q)) r → IsStep (of_asked s.before) (life keeper clock line_hand s) d d' h (asked.Query q) r
-  question_step more r did given text =
+  behind_step : (more : List Entry) (r : Result (Vec ℕ Global) Stopped) → TickDid more false → Given (numbers keeper d.room.now d'.room.now) LIMIT (entries tick) more
+      → IsText (text (followed_by more h)) r → IsStep (of_asked s.before) (life keeper clock line_hand s) d d' h x r
+  behind_step more r did given is =
       let same : followed_by more h ≡ ticked h (moment_at h now) = ap (λ (l : List Entry). followed_by l h) given.whole.is ∙ behind_tick h (moment_at h now) in
-      given_step line_hand keeper clock s (of_asked s.before) d d' h now (asked.Query q) answer_is tick can_be_told more r did
-      (subst (λ (l : ℕ). Given (numbers keeper d.room.now d'.room.now) l (entries tick) more) (sym (tick_limit h (moment_at h now))) given) (subst (λ (l : History). IsText (answer_bytes (query_answer no_frames l q)) r) same text)
+      given_step line_hand keeper clock s (of_asked s.before) d d' h now x (text (ticked h (moment_at h now))) tick means more r did
+      (subst (λ (l : ℕ). Given (numbers keeper d.room.now d'.room.now) l (entries tick) more) (sym (tick_limit h (moment_at h now))) given) (subst (λ (l : History). IsText (text l) r) same is)
 
   -- the same, by what the room answered to the tick
   pub ticked_step : (more : List Entry) (t : TickAnswer) (r : Result (Vec ℕ Global) Stopped) → ((place : ℕ) × (t ≡ tick_answer.Kept place)) ⊎ (t ≡ tick_answer.Still) → StandsAt keeper s (line_hand d) h
       → Stands keeper d'.room.now (onto more (book s h)) → TickStep (numbers keeper d.room.now d'.room.now) (book s h) now more t
       → (s.told ≡ true → ToldStep keeper d.room.now d'.room.now (book s h) (entries tick) more (is_tick_fault t))
-      → Ticked line_hand keeper clock s (of_asked s.before) d d' h (asked.Query q) (now ∷ []) → IsText (answer_bytes (query_answer no_frames (followed_by more h) q)) r
-      → IsStep (of_asked s.before) (life keeper clock line_hand s) d d' h (asked.Query q) r
-  ticked_step more t r is stands room step told ticked text =
+      → Ticked line_hand keeper clock s (of_asked s.before) d d' h x (now ∷ []) → IsText (text (followed_by more h)) r
+      → IsStep (of_asked s.before) (life keeper clock line_hand s) d d' h x r
+  ticked_step more t r is stands room step told ticked text_is =
       let given = tick_given (numbers keeper d.room.now d'.room.now) (book s h) now more t is step in
-      question_step more r
+      behind_step more r
       (record { stands = stands; room = room; told = λ is_told. subst (λ (failed : Bool). ToldStep keeper d.room.now d'.room.now (book s h) (entries tick) more failed) given.1 (told is_told); ticked = ticked })
-      given.0 text
+      given.0 text_is
 
-  pub question_failed : (more : List Entry) → TickDid more true → Failed (numbers keeper d.room.now d'.room.now) LIMIT (entries tick) more → IsStep (of_asked s.before) (life keeper clock line_hand s) d d' h (asked.Query q) (Err stopped.Fault)
-  question_failed more did failed = failed_step line_hand keeper clock s (of_asked s.before) d d' h now (asked.Query q) answer_is tick can_be_told more did
+  pub tick_failed : (more : List Entry) → TickDid more true → Failed (numbers keeper d.room.now d'.room.now) LIMIT (entries tick) more → IsStep (of_asked s.before) (life keeper clock line_hand s) d d' h x (Err stopped.Fault)
+  tick_failed more did failed = failed_step line_hand keeper clock s (of_asked s.before) d d' h now x (text (ticked h (moment_at h now))) tick means more did
       (subst (λ (l : ℕ). Failed (numbers keeper d.room.now d'.room.now) l (entries tick) more) (sym (tick_limit h (moment_at h now))) failed)
 
-  pub question_refused : (more : List Entry) (size count : ℕ) → TickDid more false → Refused (numbers keeper d.room.now d'.room.now) LIMIT (entries tick) more size count
-      → IsStep (of_asked s.before) (life keeper clock line_hand s) d d' h (asked.Query q) (Err stopped.Full)
-  question_refused more size count did refused = refused_step line_hand keeper clock s (of_asked s.before) d d' h now (asked.Query q) answer_is tick can_be_told more size count did
+  pub tick_refused : (more : List Entry) (size count : ℕ) → TickDid more false → Refused (numbers keeper d.room.now d'.room.now) LIMIT (entries tick) more size count
+      → IsStep (of_asked s.before) (life keeper clock line_hand s) d d' h x (Err stopped.Full)
+  tick_refused more size count did refused = refused_step line_hand keeper clock s (of_asked s.before) d d' h now x (text (ticked h (moment_at h now))) tick means more size count did
       (subst (λ (l : ℕ). Refused (numbers keeper d.room.now d'.room.now) l (entries tick) more size count) (sym (tick_limit h (moment_at h now))) refused)
 
 -- ---- a line, by what it is read as

@@ -17,6 +17,9 @@ use Rattle.desk_lines.specs.declared.property.LineProperty.{LineProperty}
 use Rattle.desk_lines.specs.declared.property.LineProperty.TheVariants as property
 use Rattle.desk_lines.specs.Lines.{line}
 use Rattle.desk_answers.specs.Answers.{reply_bytes, denial_bytes, bad_bytes, answer_bytes}
+use Rattle.archive_search.specs.declared.told.Told.{Told}
+use Rattle.archive_search.specs.declared.told.Told.TheVariants as archive
+use Rattle.archive_search.specs.Told.{archive_told}
 use Rattle.news_room.specs.Log.{sizes}
 use Rattle.news_room.specs.Stands.{limit_of}
 use Rattle.news_room.specs.Steps.{entries, tick_entries}
@@ -61,6 +64,18 @@ of_outcome before h at o = adding before h at (answered_bytes o.answer) (entries
 abbrev pub of_question : ℕ → History → ℕ → Query → Outcome Entry
 of_question before h at query = adding before h at (answer_bytes (query_answer no_frames (ticked h (moment_at h at)) query)) (tick_entries h (moment_at h at))
 
+abbrev pub told_bytes : Told → Bytes
+told_bytes (archive.Found bytes) = bytes
+told_bytes (archive.Refused bytes) = bytes
+
+-- what a query finds in the archive of a list, or why it is none
+abbrev pub archive_bytes : History → ℕ → Bytes → Bytes
+archive_bytes h page query = told_bytes (archive_told h page query)
+
+-- it is asked behind a tick, as a question
+abbrev pub of_search : ℕ → History → ℕ → ℕ → Bytes → Outcome Entry
+of_search before h at page query = adding before h at (archive_bytes (ticked h (moment_at h at)) page query) (tick_entries h (moment_at h at))
+
 -- the questions that a line may ask
 abbrev pub has_answer : Query → Bool
 has_answer (query.Feed s after) = true
@@ -74,6 +89,7 @@ abbrev pub of_asked : ℕ → Meaning Entry Asked
 of_asked before h (asked.Request caller number command) at = of_outcome before h at (request h caller number command at)
 of_asked before h (asked.Query query) at = if has_answer query then of_question before h at query else bad property.Ask
 of_asked before h (asked.Receipt subscriber n) at = of_outcome before h at (receipt h subscriber n at)
+of_asked before h (asked.Archive page query) at = of_search before h at page query
 
 -- a line as it is read
 abbrev pub of_read : ℕ → Meaning Entry (Result Asked LineProperty)

@@ -9,16 +9,17 @@ ghost use Rattle.desk_answers.specs.Answers.{answer_bytes};
 ghost use Rattle.news_types.specs.Answers.{query_answer};
 ghost use Rattle.news_types.specs.Books.{Book};
 ghost use Rattle.news_room.specs.Stands.{Stands, SomeBook};
-ghost use Rattle.room_runs.specs.Lines.{has_answer, no_frames};
+ghost use Rattle.room_runs.specs.Lines.{archive_bytes, has_answer, no_frames};
 ghost use Rattle.room_runs.specs.Texts.{IsText};
 
+use archive_search::{Told, tell_archive};
 use crate::scope::can_tell;
 use crate::texts::{bad_line, question_answered, receipt_answered, request_answered};
 use desk_lines::{Asked, LineFault, LineProperty, read_line};
 use line_run::{Answering, Stopped};
 use news_io::{Clock, Keeper};
 use news_room::{Room, Ticked};
-use news_types::{Command, Memory, Name, Query};
+use news_types::{Command, Memory, Name, Query, Text};
 use std::alloc::Global;
 
 /// A room, with the clock that is read once for each line that the room answers.
@@ -64,6 +65,21 @@ impl<K: Keeper, C: Clock> LineDesk<'_, K, C> {
         }
     }
 
+    // Releases what waits, and then searches the archive and writes the answer.
+    fn search(&mut self, page: u32, query: &Text) -> Result<Vec<u8>, Stopped>
+        requires stands { (s : Shelf) × ((h : History) × StandsAt K.keeper s (line_hand self.old) h) }
+        ensures step { (s : Shelf) (h : History) → StandsAt K.keeper s (line_hand self.old) h
+            → IsStep (of_asked s.before) (life K.keeper C.clock line_hand s) self.old self.new h (asked.Archive page query.now) result }
+        ensures count { StepCounts (K.keeper.faults self.old.room.now.keeper) (K.keeper.faults self.new.room.now.keeper) result }
+    {
+        let now = self.clock.now();
+        match self.room.tick(now) {
+            Ticked::Kept { .. } | Ticked::Still => found(self.alloc, self.room, page, query),
+            Ticked::Fault => Err(Stopped::Fault),
+            Ticked::Full { .. } => Err(Stopped::Full),
+        }
+    }
+
     // Takes a receipt to the room, and writes the answer.
     fn receipt(&mut self, subscriber: Name, n: u32) -> Result<Vec<u8>, Stopped>
         requires stands { (s : Shelf) × ((h : History) × StandsAt K.keeper s (line_hand self.old) h) }
@@ -74,6 +90,23 @@ impl<K: Keeper, C: Clock> LineDesk<'_, K, C> {
         let now = self.clock.now();
         let kept = self.room.receipt(now, subscriber, n);
         receipt_answered(self.alloc, &kept)
+    }
+}
+
+/// What a query finds in the archive of a room's list as it is, or why it is none.
+fn found<K: Keeper>(
+    alloc: Global,
+    room: &Room<K>,
+    page: u32,
+    query: &Text,
+) -> Result<Vec<u8>, Stopped>
+    requires { SomeBook K.keeper room.now }
+    ensures { (b : Book) → Stands K.keeper room.now b → IsText (archive_bytes b.list page query.now) result }
+{
+    match tell_archive(alloc, room, page, query.as_str()) {
+        Ok(Told::Found(text)) => Ok(text.into_vec()),
+        Ok(Told::Refused(text)) => Ok(text.into_vec()),
+        Err(Memory) => Err(Stopped::Memory),
     }
 }
 
@@ -112,6 +145,7 @@ impl<K: Keeper, C: Clock> LineDesk<'_, K, C> {
             } => self.request(caller, number, command),
             Asked::Query(query) => self.answer_query(&query),
             Asked::Receipt { subscriber, n } => self.receipt(subscriber, n),
+            Asked::Archive { page, query } => self.search(page, &query),
         }
     }
 

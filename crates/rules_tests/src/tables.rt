@@ -65,6 +65,10 @@ impl Tables {
                 Err(Memory)
             }
             Asked::Receipt { .. } => Err(Memory),
+            Asked::Archive { page: _, query } => {
+                drop(query);
+                Err(Memory)
+            }
         }
     }
 

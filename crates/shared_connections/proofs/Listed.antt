@@ -1,8 +1,9 @@
 -- A turn of a room, said of its list alone.
-use Rattle.std.proofs.Common.{◌≡◌, inl, inr, ℕ, false, List, [], refl}
+use Rattle.std.proofs.Common.{◌≡◌, inl, inr, ℕ, false, List, [], ◌++◌, refl}
 use Rattle.std.proofs.lemmas.Bool.{false≢true}
 use Rattle.news_types.specs.declared.entry.Entry.{Entry}
 use Rattle.news_types.specs.declared.query.Query.{Query}
+use Rattle.news_types.specs.Names.{Bytes}
 use Rattle.news_types.specs.Books.{Book, onto}
 use Rattle.news_types.specs.Calls as call
 use Rattle.news_types.specs.Calls.{Call, Asked, Answer}
@@ -17,12 +18,27 @@ use Rattle.desk_routes.specs.declared.ask.HttpAsk.{HttpAsk}
 use Rattle.desk_routes.specs.declared.ask.HttpAsk.TheVariants as ask
 use Rattle.desk_routes.specs.declared.response.Response.{Response}
 use Rattle.feed_http.specs.declared.answers.HttpAnswer.{HttpAnswer}
-use Rattle.feed_http.specs.Turn.{Calls, AsksBehind, TicksAndAsks, AskEvents, RequestEvents, IsAnswer, IsAnswered}
-use Rattle.shared_connections.specs.Turns.{IsListEvent, CallsList, AsksListBehind, TicksAndAsksList, AskListEvents, RequestListEvents, IsAnsweredIn}
+use Rattle.package_rules.specs.Composed.{Composed}
+use Rattle.package_rules.specs.Publishing.{flash_of}
+use Rattle.feed_http.specs.Outcome.{package_of}
+use Rattle.feed_http.specs.Turn.{Calls, AsksBehind, TicksAndAsks, FindsBehind, TicksAndFinds, FlashEvents, FlashesBehind, PackageEvents, AskEvents, RequestEvents, IsAnswer, IsAnswered}
+use Rattle.shared_connections.specs.Turns.{IsListEvent, CallsList, AsksListBehind, TicksAndAsksList, TicksAndFindsList, FlashListEvents, FlashesListBehind, PackageListEvents, AskListEvents, RequestListEvents, IsAnsweredIn}
 
 -- the book whose keeper need not tell it
 abbrev untold : Book → Book
 untold b = record { store = b.store; told = false; list = b.list }
+
+-- what was found tells nothing of the keeper
+found_listed : (b : Book) (page : ℕ) (query : Bytes) (answer : Answer) (response : Response) → FindsBehind (untold b) page query answer response → FindsBehind b page query answer response
+found_listed b page query call.Full response e = e
+found_listed b page query call.Fault response e = e
+found_listed b page query (call.Replied answered) response e = e
+found_listed b page query (call.Kept n) response e = e
+found_listed b page query call.Still response e = e
+found_listed b page query (call.Job s k frame n) response e = e
+found_listed b page query (call.Idle next) response e = e
+found_listed b page query (call.Tells told) response e = e
+found_listed b page query call.Memory response e = e
 
 module _ {K : Type 0} (keeper : KeeperMeaning K) where
   stands_untold : (r : Room K) (b : Book) → Stands keeper r b → Stands keeper r (untold b)
@@ -60,11 +76,47 @@ module _ {K : Type 0} (keeper : KeeperMeaning K) where
     asks = behind_listed new (onto more b) question now e.answer response e.asks;
   }
 
+  finds_listed : (old new : Room K) (b : Book) (more : List Entry) (page : ℕ) (query : Bytes) (now : ℕ) (response : Response) → TicksAndFinds keeper old new (untold b) more page query now response → TicksAndFindsList b more page query now response
+  finds_listed old new b more page query now response e = record {
+    answer = e.answer;
+    event = event_listed old new b more call.Ticked now e.answer e.event;
+    finds = found_listed (onto more b) page query e.answer response e.finds;
+  }
+
+  flash_listed : (old new : Room K) (b : Book) (more : List Entry) (caller : Bytes) (number : ℕ) (p : Composed) (now : ℕ) (response : Response) → FlashEvents keeper old new (untold b) more caller number p now response → FlashListEvents b more caller number p now response
+  flash_listed old new b more caller number p now response (inl still) = inl still.none
+  flash_listed old new b more caller number p now response (inr e) = inr (calls_listed old new b more (call.Requested caller number (flash_of p b.list)) now response e)
+
+  flashes_listed : (old new : Room K) (b : Book) (more : List Entry) (caller : Bytes) (number : ℕ) (p : Composed) (now : ℕ) (answer : Answer) (response : Response) → FlashesBehind keeper old new (untold b) more caller number p now answer response
+      → FlashesListBehind b more caller number p now answer response
+  flashes_listed old new b more caller number p now call.Full response e = (e.0.none, e.1)
+  flashes_listed old new b more caller number p now call.Fault response e = (e.0.none, e.1)
+  flashes_listed old new b more caller number p now (call.Replied answered) response e = flash_listed old new b more caller number p now response e
+  flashes_listed old new b more caller number p now (call.Kept n) response e = flash_listed old new b more caller number p now response e
+  flashes_listed old new b more caller number p now call.Still response e = flash_listed old new b more caller number p now response e
+  flashes_listed old new b more caller number p now (call.Job s k frame n) response e = flash_listed old new b more caller number p now response e
+  flashes_listed old new b more caller number p now (call.Idle next) response e = flash_listed old new b more caller number p now response e
+  flashes_listed old new b more caller number p now (call.Tells told) response e = flash_listed old new b more caller number p now response e
+  flashes_listed old new b more caller number p now call.Memory response e = flash_listed old new b more caller number p now response e
+
+  package_listed : (old new : Room K) (b : Book) (more : List Entry) (caller : Bytes) (number : ℕ) (p : Composed) (now : ℕ) (response : Response) → PackageEvents keeper old new (untold b) more caller number p now response → PackageListEvents b more caller number p now response
+  package_listed old new b more caller number p now response (inl still) = inl still.none
+  package_listed old new b more caller number p now response (inr e) = inr (record {
+    released = e.released;
+    added = e.added;
+    more_is = e.more_is;
+    answer = e.answer;
+    event = event_listed old e.mid b e.released call.Ticked now e.answer e.event;
+    flashes = flashes_listed e.mid new (onto e.released b) e.added caller number p now e.answer response e.flashes;
+  })
+
   asks_listed : (old new : Room K) (b : Book) (more : List Entry) (a : HttpAsk) (now : ℕ) (response : Response) → AskEvents keeper old new (untold b) more a now response → AskListEvents b more a now response
   asks_listed old new b more (ask.Request caller number command) now response e = calls_listed old new b more (call.Requested caller number command) now response e
   asks_listed old new b more (ask.Query question) now response e = ticks_listed old new b more question now response e
   asks_listed old new b more (ask.Receipt subscriber n) now response e = calls_listed old new b more (call.Receipted subscriber n) now response e
   asks_listed old new b more (ask.Ingest provider incoming) now response e = calls_listed old new b more (call.Ingested provider incoming) now response e
+  asks_listed old new b more (ask.Archive page query) now response e = finds_listed old new b more page query now response e
+  asks_listed old new b more (ask.Package caller number described) now response e = package_listed old new b more caller number (package_of described) now response e
 
   request_listed : (old new : Room K) (b : Book) (more : List Entry) (request : HttpRequest) (now : ℕ) (response : Response) → RequestEvents keeper old new (untold b) more request now response → RequestListEvents b more request now response
   request_listed old new b more request now response (inl still) = inl still.none

@@ -1,7 +1,8 @@
 -- What a request's turn makes of a list, and the turn as events of the world.
-use Rattle.std.specs.Prelude.{◌≡◌, ◌⊎◌, ℕ, List, []}
+use Rattle.std.specs.Prelude.{◌≡◌, ◌⊎◌, ℕ, List, [], ◌++◌}
 use Rattle.news_types.specs.declared.entry.Entry.{Entry}
 use Rattle.news_types.specs.declared.query.Query.{Query}
+use Rattle.news_types.specs.Names.{Bytes}
 use Rattle.news_types.specs.History.{last_stop}
 use Rattle.news_types.specs.Books.{Book, onto}
 use Rattle.news_types.specs.Calls.{Call, Requested, Ingested, Receipted, Ticked, Asked, Answer, Full, Fault, Fate}
@@ -14,9 +15,11 @@ use Rattle.desk_routes.specs.declared.ask.HttpAsk.{HttpAsk}
 use Rattle.desk_routes.specs.declared.ask.HttpAsk.TheVariants as ask
 use Rattle.desk_routes.specs.declared.ask.Asking.{Asking}
 use Rattle.desk_routes.specs.declared.response.Response.{Response}
+use Rattle.package_rules.specs.Composed.{Composed}
+use Rattle.package_rules.specs.Publishing.{flash_of}
 use Rattle.feed_http.specs.declared.answers.HttpAnswer.{HttpAnswer}
-use Rattle.feed_http.specs.Outcome.{response_to, http, stop_behind}
-use Rattle.feed_http.specs.Turn.{IsTold, Comes, IsRead}
+use Rattle.feed_http.specs.Outcome.{package_of, response_to, http, stop_behind}
+use Rattle.feed_http.specs.Turn.{IsTold, Comes, IsRead, FindsBehind}
 
 -- ---- the events of a turn
 
@@ -45,12 +48,43 @@ pub record TicksAndAsksList (b : Book) (more : List Entry) (question : Query) (n
   pub event : IsListEvent b more Ticked now answer
   pub asks : AsksListBehind (onto more b) question now answer response
 
+-- a tick, and then a search of the list
+pub record TicksAndFindsList (b : Book) (more : List Entry) (page : ℕ) (query : Bytes) (now : ℕ) (response : Response) : Type 0 where
+  pub answer : Answer
+  pub event : IsListEvent b more Ticked now answer
+  pub finds : FindsBehind (onto more b) page query answer response
+
+-- the flash of a package to its readers; or nothing was asked: nobody has every member, or there was no memory
+abbrev pub FlashListEvents : Book → List Entry → Bytes → ℕ → Composed → ℕ → Response → Type 0
+FlashListEvents b more caller number p now response = (more ≡ []) ⊎ CallsList b more (Requested caller number (flash_of p b.list)) now response
+
+-- behind a tick that was answered so: where the tick was refused nothing is flashed
+abbrev pub FlashesListBehind : Book → List Entry → Bytes → ℕ → Composed → ℕ → Answer → Response → Type 0
+FlashesListBehind b more caller number p now Full response = (more ≡ []) × (response ≡ response_to Full)
+FlashesListBehind b more caller number p now Fault response = (more ≡ []) × (response ≡ response_to Fault)
+FlashesListBehind b more caller number p now answer response = FlashListEvents b more caller number p now response
+
+-- a tick, and then the flash of a package to its readers at the list behind it
+pub record TicksAndFlashesList (b : Book) (more : List Entry) (caller : Bytes) (number : ℕ) (p : Composed) (now : ℕ) (response : Response) : Type 0 where
+  pub released : List Entry
+  pub added : List Entry
+  pub more_is : more ≡ released ++ added
+  pub answer : Answer
+  pub event : IsListEvent b released Ticked now answer
+  pub flashes : FlashesListBehind (onto released b) added caller number p now answer response
+
+-- what a package's request was, where the package could be made: without memory for that nothing was asked
+abbrev pub PackageListEvents : Book → List Entry → Bytes → ℕ → Composed → ℕ → Response → Type 0
+PackageListEvents b more caller number p now response = (more ≡ []) ⊎ TicksAndFlashesList b more caller number p now response
+
 -- what is asked of the list
 abbrev pub AskListEvents : Book → List Entry → HttpAsk → ℕ → Response → Type 0
 AskListEvents b more (ask.Request caller number command) now response = CallsList b more (Requested caller number command) now response
 AskListEvents b more (ask.Query question) now response = TicksAndAsksList b more question now response
 AskListEvents b more (ask.Receipt subscriber n) now response = CallsList b more (Receipted subscriber n) now response
 AskListEvents b more (ask.Ingest provider incoming) now response = CallsList b more (Ingested provider incoming) now response
+AskListEvents b more (ask.Archive page query) now response = TicksAndFindsList b more page query now response
+AskListEvents b more (ask.Package caller number described) now response = PackageListEvents b more caller number (package_of described) now response
 
 -- the events of what the request asks, or nothing was asked
 abbrev pub RequestListEvents : Book → List Entry → HttpRequest → ℕ → Response → Type 0

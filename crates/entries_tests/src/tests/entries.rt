@@ -222,6 +222,10 @@ fn act_of(asked: Asked) -> Result<Act, Fail> {
             Err(Fail::new("no request"))
         }
         Asked::Receipt { .. } => Err(Fail::new("no request")),
+        Asked::Archive { page: _, query } => {
+            drop(query);
+            Err(Fail::new("no request"))
+        }
     }
 }
 

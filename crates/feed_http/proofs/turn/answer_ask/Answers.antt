@@ -34,3 +34,18 @@ returns-in-Receipt g c = asked_as g.K.Keeper.keeper c.args.room.now c.answer_rec
 
 pub returns-in-Ingest : goal.returns-in-Ingest
 returns-in-Ingest g c = asked_as g.K.Keeper.keeper c.args.room.now c.answer_ingest.new.room c.args.ask (ask.Ingest c.in-Ingest.provider c.in-Ingest.incoming) c.args.now c.answer_ingest.result c.in-Ingest.is c.answer_ingest.ensures
+
+pub answer_search-requires : goal.answer_search-requires
+answer_search-requires g c = c.requires.stands
+
+pub answer_package-requires-clause-stands : goal.answer_package-requires-clause-stands
+answer_package-requires-clause-stands g c = c.requires.stands
+
+pub answer_package-requires-clause-fits : goal.answer_package-requires-clause-fits
+answer_package-requires-clause-fits g c = subst FitsAsk c.in-Package.is c.requires.fits
+
+pub returns-in-Archive : goal.returns-in-Archive
+returns-in-Archive g c = asked_as g.K.Keeper.keeper c.args.room.now c.answer_search.new.archive c.args.ask (ask.Archive c.in-Archive.page c.in-Archive.query) c.args.now c.answer_search.result c.in-Archive.is c.answer_search.ensures
+
+pub returns-in-Package : goal.returns-in-Package
+returns-in-Package g c = asked_as g.K.Keeper.keeper c.args.room.now c.answer_package.new.room c.args.ask (ask.Package c.in-Package.caller c.in-Package.number c.in-Package.described) c.args.now c.answer_package.result c.in-Package.is c.answer_package.ensures

@@ -20,3 +20,8 @@ pub returns-in-Receipt-clause-step : goal.returns-in-Receipt-clause-step
 returns-in-Receipt-clause-step g c s h stands =
     subst (λ (a : Asked). IsStep (of_asked s.before) (life g.K.Keeper.keeper g.C.Clock.clock line_hand s) c.args.self.now c.receipt.new.self h a c.receipt.result) (sym c.in-Receipt.is)
     (c.receipt.ensures.step s h stands)
+
+pub returns-in-Archive-clause-step : goal.returns-in-Archive-clause-step
+returns-in-Archive-clause-step g c s h stands =
+    subst (λ (a : Asked). IsStep (of_asked s.before) (life g.K.Keeper.keeper g.C.Clock.clock line_hand s) c.args.self.now c.search.new.self h a c.search.result) (sym c.in-Archive.is)
+    (c.search.ensures.step s h stands)

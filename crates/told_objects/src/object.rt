@@ -1,13 +1,15 @@
-//! Objects that are written.
+//! A JSON object that is told.
 ghost use Rattle.std.specs.Prelude.{◌≡◌, false};
 ghost use Rattle.serde_json.specs.View.{members_view};
 ghost use Rattle.serde_json.specs.Written.{members_have_float};
 
 use serde_json::{Map, Value};
+use std::alloc::Global;
 
 /// An object without a float.
 #[derive(Drop)]
-pub(crate) struct Told {
+pub struct Object {
+    pub(crate) alloc: Global,
     pub(crate) members: Map<String, Value>,
     ghost plain: { members_have_float (members_view members.entries) ≡ false },
 }
