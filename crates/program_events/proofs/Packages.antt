@@ -1,5 +1,5 @@
 -- A package has happened in each world that has the list of its files.
-use Rattle.std.proofs.Common.{◌≡◌, inl, inr, ℕ, Bool, true, false, List, [], ◌∷◌, ◌++◌, length, Option, Some, None, refl, sym, ap, ◌∙◌, subst}
+use Rattle.std.proofs.Common.{◌≡◌, ◌⊎◌, inl, inr, ℕ, Bool, true, false, List, [], ◌∷◌, ◌++◌, length, Option, Some, None, refl, sym, ap, ◌∙◌, subst}
 use mathlib.Core.Bool.{false≢true}
 use Rattle.news_types.specs.Books.{Book, followed_by, onto}
 use Rattle.news_types.specs.declared.entry.Entry.{Entry}
