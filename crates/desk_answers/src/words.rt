@@ -70,7 +70,7 @@ pub(crate) fn word_of_thing(thing: Thing) -> &'static str
 }
 
 /// A denial's own name.
-pub(crate) fn word_of_denial(denial: &Denial) -> &'static str
+pub fn word_of_denial(denial: &Denial) -> &'static str
     ensures { result.now ≡ denial_word denial.now }
 {
     match denial {

@@ -2,6 +2,7 @@
 use Rattle.std.proofs.Common.{◌≡◌, inl, inr, ◌<◌, ℕ, ◌+◌, take, drop, get_or, length, map, Bool, true, false, cond, List, [], ◌∷◌, ◌++◌, Option, Some, None, Result, Ok, Err, refl, sym, ap, subst, ◌∙◌, arith, append_assoc, append-nil}
 use Rattle.std.proofs.lemmas.List.{at_drop_more, take-append-drop, take_more, map-append}
 use Rattle.news_types.specs.declared.entry.Entry.{Entry}
+use Rattle.news_types.specs.declared.entry.Act.TheVariants.{Request}
 use Rattle.news_types.specs.declared.entry.Reply.{Reply}
 use Rattle.news_types.specs.declared.denial.Denial.{Denial}
 use Rattle.news_types.specs.declared.denial.Denial.TheVariants.{OutOfTurn}
@@ -13,17 +14,17 @@ use Rattle.news_types.specs.declared.query.FeedRow.{FeedRow}
 use Rattle.news_types.specs.declared.query.Query.TheVariants as query
 use Rattle.news_types.specs.declared.words.Thing.TheVariants as thing
 use Rattle.news_types.specs.Names.{Bytes}
-use Rattle.news_types.specs.History.{History, moment_at, last_number}
+use Rattle.news_types.specs.History.{History, moment_at, last, last_number}
 use Rattle.news_types.specs.Books.{Book, onto, followed_by}
 use Rattle.news_types.specs.Products.{is_subscriber}
-use Rattle.news_types.specs.Feeds.{feed}
 use Rattle.news_types.specs.Answers.{query_answer, feed_answer}
-use Rattle.news_types.specs.Outcome.{Outcome, Answered, Done, Repeat, Denied, request, request_at, refused}
-use Rattle.news_types.specs.Calls.{Requested, follow}
+use Rattle.news_types.specs.Denial.{turn_denial, is_repeat, command_denial}
+use Rattle.news_types.specs.Outcome.{Outcome, Answered, Done, Repeat, Denied, request, request_at, refused, kept, kept_unless, last_reply}
+use Rattle.news_types.specs.Calls.{Requested}
 use Rattle.news_io.specs.Keeper.{KeeperMeaning}
 use Rattle.news_room.specs.Beside.{Beside, beside}
 use Rattle.news_room.specs.Log.{sizes}
-use Rattle.news_room.specs.Stands.{Stands, LIMIT, numbers}
+use Rattle.news_room.specs.Stands.{Stands, LIMIT, limit_for, numbers}
 use Rattle.news_room.specs.Said.{said, is_failure}
 use Rattle.news_room.specs.Steps.{Whole, Given, Failed, Refused, Within, Answers, RequestStep, After, entries}
 use Rattle.news_room.specs.Events.{Happens}
@@ -39,7 +40,7 @@ use Rattle.subscriber_import.specs.Fields.{Wanted, wanted_of, command_of}
 use Rattle.subscriber_import.specs.Table.{Row}
 use Rattle.subscriber_import.specs.Import.{asked, added_by, told_as, line_by, imported, lines, added, behind}
 use Rattle.subscriber_import.specs.Steps.{next_of, RowStep, line_of, expected_of, expected_in, NumberStep, HasStopped, ImportStep, HasNoHead, Imports, stopped_by, is_stop_fault, is_import_fault}
-use Rattle.subscriber_import.proofs.Imports.{added_is_imported, behind_one}
+use Rattle.subscriber_import.proofs.Imports.{added_is_imported}
 
 -- ---- whether a subscriber is there
 
@@ -115,7 +116,7 @@ module _ {K : Type 0} (keeper : KeeperMeaning K) where
 
     -- there is one
     pub number_there : (handled : Handled) → Zero handled → expected_in handled ≡ None → ⊥
-    number_there (Handled.Denied denial) h is = no_number (sym (ap expected_of (denial_is (OutOfTurn (last_number b.list caller + 1)) denial h.step.0)) ) is
+    number_there (Handled.Denied denial) h is = no_number (sym (ap expected_of (denial_is (OutOfTurn (last_number b.list caller + 1)) denial h.step.0))) is
       where
         no_number : expected_of denial ≡ Some (Some (last_number b.list caller + 1)) → expected_of denial ≡ None → ⊥
         no_number some none = cc
@@ -149,20 +150,45 @@ module _ {K : Type 0} (keeper : KeeperMeaning K) where
       → After keeper r r b (next_of b.list caller now wanted) [] false (RowStep (numbers keeper r r) b.list caller now wanted [] (Err Stop.Memory))
   no_memory r b caller now wanted stands = quiet r b (next_of b.list caller now wanted) (RowStep (numbers keeper r r) b.list caller now wanted [] (Err Stop.Memory)) stands (none_kept (numbers keeper r r) refl refl)
 
-given_of : (n : Beside) → Whole n [] [] → Given n LIMIT [] []
-given_of n whole = record { whole = whole; within = tt }
+given_of : (n : Beside) (limit : ℕ) → Whole n [] [] → Given n limit [] []
+given_of n limit whole = record { whole = whole; within = tt }
 
 whole_then : (f u g v k w : ℕ) (more : List Entry) → Whole (beside f u g v) [] [] → Whole (beside g v k w) [] more → Whole (beside f u k w) [] more
 whole_then f u g v k w more one two = record { is = two.is; calm = two.calm ∙ one.calm; grown = omega (arith, one.grown, two.grown) }
 
 -- what was answered, behind a call that kept nothing
 answers_then : (f u g v k w : ℕ) (more : List Entry) (o : Outcome Answered) (handled : Handled) → Whole (beside f u g v) [] [] → Answers (beside g v k w) more o handled → Answers (beside f u k w) more o handled
-answers_then f u g v k w more o (Handled.Done reply) one two = (two.0, given_given f u g v k w LIMIT [] (entries o.more) [] more (given_of (beside f u g v) one) two.1)
-answers_then f u g v k w more o (Handled.Repeat reply) one two = (two.0, given_given f u g v k w LIMIT [] (entries o.more) [] more (given_of (beside f u g v) one) two.1)
-answers_then f u g v k w more o (Handled.Denied denial) one two = (two.0, given_given f u g v k w LIMIT [] (entries o.more) [] more (given_of (beside f u g v) one) two.1)
-answers_then f u g v k w more o Handled.Fault one two = given_failed f u g v k w LIMIT [] (entries o.more) [] more (given_of (beside f u g v) one) two
-answers_then f u g v k w more o (Handled.Full size count) one two = given_refused f u g v k w LIMIT [] (entries o.more) [] more size count (given_of (beside f u g v) one) two
+answers_then f u g v k w more o (Handled.Done reply) one two =
+    let limit : ℕ = limit_for (entries o.more) in (two.0, given_given f u g v k w limit [] (entries o.more) [] more (given_of (beside f u g v) limit one) two.1)
+answers_then f u g v k w more o (Handled.Repeat reply) one two =
+    let limit : ℕ = limit_for (entries o.more) in (two.0, given_given f u g v k w limit [] (entries o.more) [] more (given_of (beside f u g v) limit one) two.1)
+answers_then f u g v k w more o (Handled.Denied denial) one two =
+    let limit : ℕ = limit_for (entries o.more) in (two.0, given_given f u g v k w limit [] (entries o.more) [] more (given_of (beside f u g v) limit one) two.1)
+answers_then f u g v k w more o Handled.Fault one two =
+    let limit : ℕ = limit_for (entries o.more) in given_failed f u g v k w limit [] (entries o.more) [] more (given_of (beside f u g v) limit one) two
+answers_then f u g v k w more o (Handled.Full size count) one two =
+    let limit : ℕ = limit_for (entries o.more) in given_refused f u g v k w limit [] (entries o.more) [] more size count (given_of (beside f u g v) limit one) two
 answers_then f u g v k w more o Handled.Memory one two = whole_then f u g v k w more one two
+
+-- what follows such a request is no stop and no halt
+kept_limit : (d : Option Denial) (o : Outcome Answered) → limit_for (entries o.more) ≡ LIMIT → limit_for (entries (kept_unless d o).more) ≡ LIMIT
+kept_limit None o is = is
+kept_limit (Some reason) o is = refl
+
+repeat_limit : (b : Bool) (reply : Reply) (o : Outcome Answered) → limit_for (entries o.more) ≡ LIMIT → limit_for (entries (cond b (record { answer = Repeat reply; more = None }) o).more) ≡ LIMIT
+repeat_limit true reply o is = refl
+repeat_limit false reply o is = is
+
+asked_limit : (h : History) (caller : Bytes) (now : ℕ) (w : Wanted) → limit_for (entries (asked h caller now w).more) ≡ LIMIT
+asked_limit h caller now w =
+    let number : ℕ = last_number h caller + 1 in
+    let command : Command = command_of w in
+    let m : ℕ = moment_at h now in
+    let all : Outcome Answered = kept h m (Request caller number command) in
+    let judged : Outcome Answered = kept_unless (command_denial h caller command m) all in
+    let again : Outcome Answered = record { answer = Repeat (last_reply h caller); more = None } in
+    kept_limit (turn_denial (last h caller) number command) (cond (is_repeat (last h caller) number command) again judged)
+    (repeat_limit (is_repeat (last h caller) number command) (last_reply h caller) judged (kept_limit (command_denial h caller command m) all refl))
 
 -- of a subscriber that is not there
 module _ (n : Beside) (h : History) (caller : Bytes) (now : ℕ) (w : Wanted) (more : List Entry) (new : is_subscriber h w.subscriber ≡ false) where
@@ -172,12 +198,19 @@ module _ (n : Beside) (h : History) (caller : Bytes) (now : ℕ) (w : Wanted) (m
   line_is : (a : Answered) → (asked h caller now w).answer ≡ a → told_as a ≡ line_by h caller now (Some w)
   line_is a is = ap told_as (sym is) ∙ ap (λ (b : Bool). cond b Line.There (told_as (asked h caller now w).answer)) (sym new)
 
+  limit_is : limit_for (entries (asked h caller now w).more) ≡ LIMIT
+  limit_is = asked_limit h caller now w
+
+  given_is : Given n (limit_for (entries (asked h caller now w).more)) (entries (asked h caller now w).more) more → Given n LIMIT (next_of h caller now (Some w)) more
+  given_is given = subst (λ (l : List Entry). Given n LIMIT l more) next_is (subst (λ (k : ℕ). Given n k (entries (asked h caller now w).more) more) limit_is given)
+
   asked_line : (handled : Handled) → Answers n more (asked h caller now w) handled → RowStep n h caller now (Some w) more (line_of handled)
-  asked_line (Handled.Done reply) step = (line_is (Done reply) step.0, subst (λ (l : List Entry). Given n LIMIT l more) next_is step.1)
-  asked_line (Handled.Repeat reply) step = (line_is (Repeat reply) step.0, subst (λ (l : List Entry). Given n LIMIT l more) next_is step.1)
-  asked_line (Handled.Denied denial) step = (line_is (Denied denial) step.0, subst (λ (l : List Entry). Given n LIMIT l more) next_is step.1)
-  asked_line Handled.Fault step = subst (λ (l : List Entry). Failed n LIMIT l more) next_is step
-  asked_line (Handled.Full size count) step = subst (λ (l : List Entry). Refused n LIMIT l more size count) next_is step
+  asked_line (Handled.Done reply) step = (line_is (Done reply) step.0, given_is step.1)
+  asked_line (Handled.Repeat reply) step = (line_is (Repeat reply) step.0, given_is step.1)
+  asked_line (Handled.Denied denial) step = (line_is (Denied denial) step.0, given_is step.1)
+  asked_line Handled.Fault step = subst (λ (l : List Entry). Failed n LIMIT l more) next_is (subst (λ (k : ℕ). Failed n k (entries (asked h caller now w).more) more) limit_is step)
+  asked_line (Handled.Full size count) step =
+      subst (λ (l : List Entry). Refused n LIMIT l more size count) next_is (subst (λ (k : ℕ). Refused n k (entries (asked h caller now w).more) more size count) limit_is step)
   asked_line Handled.Memory step = step
 
 fault_same : (handled : Handled) → is_failure (said handled) ≡ is_stop_fault (line_of handled)
@@ -202,12 +235,12 @@ module _ {K : Type 0} (keeper : KeeperMeaning K) where
       let said_number : request h caller number (command_of w) now ≡ asked h caller now w = ap (λ (k : ℕ). request h caller k (command_of w) now) one.did.0 in
       let answers = subst (λ (o : Outcome Answered). Answers (numbers keeper mid new) more o handled) said_number two.step in
       let step : T =
-          asked_line (numbers keeper old new) h caller now w more new_one handled
-          (answers_then (keeper.faults old.keeper) (keeper.used old.keeper) (keeper.faults mid.keeper) (keeper.used mid.keeper) (keeper.faults new.keeper) (keeper.used new.keeper) more (asked h caller now w) handled one.did.1 answers) in
+      asked_line (numbers keeper old new) h caller now w more new_one handled
+      (answers_then (keeper.faults old.keeper) (keeper.used old.keeper) (keeper.faults mid.keeper) (keeper.used mid.keeper) (keeper.faults new.keeper) (keeper.used new.keeper) more (asked h caller now w) handled one.did.1 answers) in
       let a : After keeper mid new b (entries (request h caller number (command_of w) now).more) more (is_failure (said handled)) U = record { stands = two.stands; did = two.step; told = two.told } in
       let both = after_then keeper old mid new b [] (entries (request h caller number (command_of w) now).more) [] more (is_failure (said handled)) S U T refl one a step in
       let should : entries (request h caller number (command_of w) now).more ≡ next_of h caller now (Some w) =
-          ap (λ (o : Outcome Answered). entries o.more) said_number ∙ next_is (numbers keeper old new) h caller now w more new_one in
+      ap (λ (o : Outcome Answered). entries o.more) said_number ∙ next_is (numbers keeper old new) h caller now w more new_one in
       subst (λ (f : Bool). After keeper old new b (next_of h caller now (Some w)) more f T) (fault_same handled)
       (after_should keeper old new b (entries (request h caller number (command_of w) now).more) (next_of h caller now (Some w)) more (is_failure (said handled)) T T should both step)
 
@@ -287,7 +320,7 @@ module _ {K : Type 0} (keeper : KeeperMeaning K) (caller : Bytes) (now : ℕ) wh
     given_both given =
         subst (λ (l : List Entry). Given (numbers keeper old new) LIMIT l (more ++ found)) should_is
         (given_given (keeper.faults old.keeper) (keeper.used old.keeper) (keeper.faults mid.keeper) (keeper.used mid.keeper) (keeper.faults new.keeper) (keeper.used new.keeper) LIMIT
-          (added b.list caller now before) (next_of (followed_by more b.list) caller now (wanted_of row)) more found gone.after.did given)
+        (added b.list caller now before) (next_of (followed_by more b.list) caller now (wanted_of row)) more found gone.after.did given)
 
     -- both calls
     both : (failed : Bool) (U T : Type 0) → After keeper mid new (onto more b) (next_of (followed_by more b.list) caller now (wanted_of row)) found failed U → T → After keeper old new b (added b.list caller now (before ++ row ∷ [])) (more ++ found) failed T
@@ -338,7 +371,7 @@ module _ {K : Type 0} (keeper : KeeperMeaning K) (caller : Bytes) (now : ℕ) wh
           let step : ImportStep (numbers keeper old new) b.list caller now (before ++ row ∷ rest) (more ++ found) Imported.Fault = (
             stopped (none_first (added_by (followed_by more b.list) caller now (wanted_of row)) found two.did.next two.did.rest two.did.is),
             subst (λ (l : List Entry). Failed (numbers keeper old new) LIMIT l (more ++ found)) more_is
-            (failed_longer (numbers keeper old new) LIMIT (added b.list caller now (before ++ row ∷ [])) (added (imported b.list caller now (before ++ row ∷ [])) caller now rest) (more ++ found) all),
+                (failed_longer (numbers keeper old new) LIMIT (added b.list caller now (before ++ row ∷ [])) (added (imported b.list caller now (before ++ row ∷ [])) caller now rest) (more ++ found) all),
           ) in
           longer true (RowStep (numbers keeper mid new) (followed_by more b.list) caller now (wanted_of row) found (Err Stop.Fault)) (ImportStep (numbers keeper old new) b.list caller now (before ++ row ∷ rest) (more ++ found) Imported.Fault) two step
 
@@ -351,7 +384,7 @@ module _ {K : Type 0} (keeper : KeeperMeaning K) (caller : Bytes) (now : ℕ) wh
           let step : ImportStep (numbers keeper old new) b.list caller now (before ++ row ∷ rest) (more ++ found) (Imported.Full size count) = (
             stopped (none_first (added_by (followed_by more b.list) caller now (wanted_of row)) found two.did.next two.did.rest two.did.is),
             subst (λ (l : List Entry). Refused (numbers keeper old new) LIMIT l (more ++ found) size count) more_is
-            (refused_longer (numbers keeper old new) LIMIT (added b.list caller now (before ++ row ∷ [])) (added (imported b.list caller now (before ++ row ∷ [])) caller now rest) (more ++ found) size count all),
+                (refused_longer (numbers keeper old new) LIMIT (added b.list caller now (before ++ row ∷ [])) (added (imported b.list caller now (before ++ row ∷ [])) caller now rest) (more ++ found) size count all),
           ) in
           longer false (RowStep (numbers keeper mid new) (followed_by more b.list) caller now (wanted_of row) found (Err (Stop.Full size count))) (ImportStep (numbers keeper old new) b.list caller now (before ++ row ∷ rest) (more ++ found) (Imported.Full size count)) two step
 
@@ -361,7 +394,7 @@ module _ {K : Type 0} (keeper : KeeperMeaning K) (caller : Bytes) (now : ℕ) wh
       gone_memory two =
           let none = two.did.is in
           let given = given_given (keeper.faults old.keeper) (keeper.used old.keeper) (keeper.faults mid.keeper) (keeper.used mid.keeper) (keeper.faults new.keeper) (keeper.used new.keeper) LIMIT (added b.list caller now before) [] more found gone.after.did
-              (nothing_kept (numbers keeper mid new) found two.did) in
+          (nothing_kept (numbers keeper mid new) found two.did) in
           let step : ImportStep (numbers keeper old new) b.list caller now (before ++ row ∷ rest) (more ++ found) Imported.Memory = (stopped none, subst (λ (l : List Entry). Given (numbers keeper old new) LIMIT l (more ++ found)) (append-nil (added b.list caller now before)) given) in
           longer false (RowStep (numbers keeper mid new) (followed_by more b.list) caller now (wanted_of row) found (Err Stop.Memory)) (ImportStep (numbers keeper old new) b.list caller now (before ++ row ∷ rest) (more ++ found) Imported.Memory) two step
         where

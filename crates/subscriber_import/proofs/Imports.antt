@@ -1,18 +1,17 @@
 -- What a table adds to a list, and that it adds nothing once more.
-use Rattle.std.proofs.Common.{◌≡◌, ◌==◌, ℕ, ◌+◌, Bool, true, false, ◌&&◌, cond, Option, Some, None, List, [], ◌∷◌, ◌++◌, refl, sym, ap, subst, ◌∙◌, arith}
+use Rattle.std.proofs.Common.{◌≡◌, ◌==◌, ℕ, ◌+◌, Bool, true, false, cond, Option, Some, None, List, [], ◌∷◌, refl, sym, ap, subst, ◌∙◌, arith}
 use Rattle.std.specs.Prelude.{is_some, nat_lt}
 use Rattle.std.proofs.lemmas.Bool.Decides.{nat_tests}
-use mathlib.Core.Bool.{true≢false}
 use Rattle.news_types.specs.declared.entry.Entry.{Entry}
 use Rattle.news_types.specs.declared.entry.Act.TheVariants.{Request}
 use Rattle.news_types.specs.declared.command.Command.{Command}
 use Rattle.news_types.specs.declared.denial.Denial.{Denial}
-use Rattle.news_types.specs.Names.{Bytes, same}
+use Rattle.news_types.specs.Names.{Bytes}
 use Rattle.news_types.specs.History.{History, Asked, last, number_of, last_number, moment_at}
-use Rattle.news_types.specs.Products.{Subscriber, subscriber, is_subscriber}
+use Rattle.news_types.specs.Products.{subscriber, is_subscriber}
 use Rattle.news_types.specs.Books.{followed_by}
 use Rattle.news_types.specs.Calls.{more}
-use Rattle.news_types.specs.Denial.{turn_denial, is_repeat, is_last_command, command_denial}
+use Rattle.news_types.specs.Denial.{turn_denial, is_repeat, command_denial}
 use Rattle.news_types.specs.Outcome.{Outcome, Answered, Done, Repeat, Denied, kept_unless, kept, entry_of, request, last_reply}
 use Rattle.news_types.proofs.Members.{same_self}
 use Rattle.news_types.proofs.Books.{behind_more}

@@ -1,7 +1,7 @@
 -- The names of a field are read part by part.
-use Rattle.std.proofs.Common.{◌≡◌, ◌≤◌, ◌<◌, ℕ, zero, suc, ◌+◌, ◌*◌, ◌-◌, Bool, true, false, ◌&&◌, ◌==◌, cond, take, drop, get_or, not, List, [], ◌∷◌, ◌++◌, length, Option, Some, None, refl, sym, ap, subst, ◌∙◌, arith, append_assoc, length-append, append-nil}
+use Rattle.std.proofs.Common.{◌≡◌, ◌≤◌, ◌<◌, ℕ, zero, suc, ◌+◌, ◌*◌, ◌-◌, Bool, true, false, ◌&&◌, ◌==◌, cond, take, drop, get_or, not, List, [], ◌∷◌, ◌++◌, length, Some, None, refl, sym, ap, subst, ◌∙◌, arith, append_assoc, length-append}
 use Rattle.std.specs.Prelude.{nat_le, nat_lt, IsUtf8}
-use Rattle.std.specs.List.{list_all, slice_split, position, position_or_len}
+use Rattle.std.specs.List.{list_all, position, position_or_len}
 use Rattle.std.specs.Char.{is_ascii_digit}
 use mathlib.Core.Bool.{true≢false}
 use Rattle.std.proofs.lemmas.Bool.{and_parts}
@@ -199,6 +199,7 @@ front_part field end is = by (nat_lt (position_or_len stop field) (length field)
   where
     stop : ℕ → Bool
     stop = λ (b : ℕ). b == 59
+
     by : (b : Bool) → nat_lt (position_or_len stop field) (length field) ≡ b → cond b (Some (position_or_len stop field)) None ≡ Some end → parts_of field ≡ take end field ∷ parts_of (drop (end + 1) field)
     by true less found =
         slice_split_first stop field 0 (grind (arith, nat_tests, less)) ∙ ap (λ (k : ℕ). take k field ∷ parts_of (drop (k + 1) field)) (some_of (position_or_len stop field) end found)
@@ -209,6 +210,7 @@ none_stops field is = by (nat_lt (position_or_len stop field) (length field)) re
   where
     stop : ℕ → Bool
     stop = λ (b : ℕ). b == 59
+
     by : (b : Bool) → nat_lt (position_or_len stop field) (length field) ≡ b → cond b (Some (position_or_len stop field)) None ≡ None → length field ≤ position_or_len stop field
     by true less found = absurd (cc (found))
     by false less found = grind (arith, nat_tests, less)

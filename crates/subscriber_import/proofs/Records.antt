@@ -1,8 +1,11 @@
 -- The records of a text are those that it is read as.
-use Rattle.std.proofs.Common.{◌≡◌, ◌⊎◌, inl, inr, ◌==◌, ℕ, zero, suc, ◌+◌, ◌<◌, ◌≤◌, Bool, true, false, ◌&&◌, ◌||◌, cond, Option, Some, None, List, [], ◌∷◌, ◌++◌, length, refl, sym, ap, subst, ◌∙◌, arith, add-one}
+use Rattle.std.proofs.Common.{◌≡◌, ◌⊎◌, inl, inr, ◌==◌, ℕ, zero, suc, ◌<◌, ◌≤◌, Bool, true, false, cond, Option, Some, None, List, [], ◌∷◌, ◌++◌, length, refl, sym, ap, subst, ◌∙◌, arith, add-one}
 use mathlib.Core.Bool.{true≢false}
 use Rattle.csv.specs.Machine.{Read, is_end, step, in_field, start_field, start_record, after_end, ends_with, ends_at_end, fields_after, field_after, next_record}
-use Rattle.csv.specs.Reading.{default_config, strip_bom, records, records_from, records_next, Reached, AreRecords}
+use Rattle.csv.specs.Reading.{ExplainsRead, default_config, is_flexible, stops_reader, strip_bom, records_from, records_next, Reached}
+use Rattle.csv.specs.declared.error.ErrorKind.{ErrorKind}
+use Rattle.csv.specs.declared.error.ErrorKind.TheVariants as kind
+use Rattle.csv.specs.declared.reader.Reader.{Reader}
 use Rattle.csv.specs.declared.parser.State.{State}
 use Rattle.csv.specs.declared.parser.State.TheVariants as st
 use Rattle.csv.specs.declared.parser.Action.{Action}
@@ -135,3 +138,14 @@ rows_are_records table rows are =
     let text : List ℕ = strip_bom table in
     ap (λ (n : ℕ). records_from default_config n st.StartRecord text) (add-one (length text))
     ∙ read_on (suc (length text)) st.StartRecord are.0 text are.1 rows (inl refl) (omega arith) are.2 are.3
+
+-- ---- why a reader fails
+
+-- one that takes records of any length, and as bytes, fails by the reader underneath or for want of memory
+pub stops : {R : Type 0} (rem : R → Option (List ℕ)) (old new : Reader R) (k : ErrorKind) → is_flexible old ≡ true → ExplainsRead rem old new false k → stops_reader k ≡ true
+stops rem old new (kind.Io e) flexible why = refl
+stops rem old new kind.OutOfMemory flexible why = refl
+stops rem old new (kind.UnequalLengths pos expected len) flexible why = absurd (true≢false (sym flexible ∙ why.0))
+stops rem old new (kind.Utf8 pos err) flexible why = absurd (true≢false (sym why.0))
+stops rem old new (kind.Serialize err) flexible why = absurd why
+stops rem old new (kind.Deserialize pos err) flexible why = absurd why

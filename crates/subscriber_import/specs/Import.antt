@@ -49,7 +49,6 @@ abbrev pub lines : History → Bytes → ℕ → List Row → List Line
 lines h caller now [] = []
 lines h caller now (row ∷ rows) = line_by h caller now (wanted_of row) ∷ lines (behind h caller now row) caller now rows
 
-
 -- the entries that these records add, oldest first
 abbrev pub added : History → Bytes → ℕ → List Row → List Entry
 added h caller now [] = []

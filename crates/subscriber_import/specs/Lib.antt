@@ -5,3 +5,4 @@ pub mod Reads
 pub mod Import
 pub mod Steps
 pub mod Laws
+pub mod Report

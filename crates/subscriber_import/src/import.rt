@@ -68,13 +68,7 @@ fn behind_head(records: &[ByteRecord]) -> Option<&[ByteRecord]>
     ensures { rows_in result ≡ rows_behind (map fields_of records.now) }
 {
     match records {
-        [head, rows @ ..] => {
-            if is_head(head) {
-                Some(rows)
-            } else {
-                None
-            }
-        }
+        [head, rows @ ..] => { if is_head(head) { Some(rows) } else { None } }
         [] => None,
     }
 }

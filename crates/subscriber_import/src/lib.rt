@@ -4,6 +4,7 @@
 mod import;
 mod laws;
 mod line;
+mod report;
 mod rows;
 mod table;
 mod wanted;
@@ -11,3 +12,4 @@ mod wanted;
 pub use import::{Imported, import_table};
 pub use laws::import_law;
 pub use line::{Line, Lines};
+pub use report::lines_text;

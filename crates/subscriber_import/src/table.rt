@@ -1,15 +1,14 @@
 //! The records of a table are read.
-ghost use Rattle.std.specs.Prelude.{◌≡◌, IfOk, map};
+ghost use Rattle.std.specs.Prelude.{◌≡◌, IfOk, map, true};
+ghost use Rattle.csv.specs.Reading.{error_kind, stops_reader};
 ghost use Rattle.csv.specs.Records.{fields_of};
 ghost use Rattle.subscriber_import.specs.Table as said;
 
-use csv::{ByteRecord, ReaderBuilder};
+use csv::{ByteRecord, Error, ErrorKind, ReaderBuilder};
 use news_types::Memory;
 use std::alloc::Global;
 
 /// The records of a table of comma-separated values.
-///
-/// A reader over bytes that lie in memory has no other cause to fail than want of it.
 pub(crate) fn read_table(alloc: Global, table: &[u8]) -> Result<Vec<ByteRecord>, Memory>
     ensures { IfOk result (λ records. map fields_of records.items ≡ said.rows_of table.now) }
 {
@@ -19,12 +18,26 @@ pub(crate) fn read_table(alloc: Global, table: &[u8]) -> Result<Vec<ByteRecord>,
         .from_reader(alloc, table);
     let mut records = Vec::new(alloc);
     for row in reader.into_byte_records() {
-        let Ok(row) = row else {
-            return Err(Memory);
-        };
-        records.push(row)?;
+        match row {
+            Ok(row) => records.push(row)?,
+            Err(error) => return Err(no_memory(error)),
+        }
     }
     Ok(records)
+}
+
+/// That there was no memory: a reader over bytes that lie in memory, which takes records of any length, has no other cause to
+/// fail.
+fn no_memory(error: Error) -> Memory
+    requires { stops_reader (error_kind error) ≡ true }
+{
+    match error.into_kind() {
+        ErrorKind::Io(_) | ErrorKind::OutOfMemory => Memory,
+        ErrorKind::Utf8 { .. }
+        | ErrorKind::UnequalLengths { .. }
+        | ErrorKind::Serialize(_)
+        | ErrorKind::Deserialize { .. } => unreachable!(),
+    }
 }
 
 /// Whether the first record of a table is its head.

@@ -182,10 +182,7 @@ fn read_lag(field: &[u8]) -> Option<u32>
 fn is_decimal(field: &[u8]) -> bool
     ensures { result ≡ form.is_decimal field.now }
 {
-    field.len() > 0
-        && field.len() <= MOST_DIGITS
-        && are_digits(field)
-        && !leads_with_zero(field)
+    field.len() > 0 && field.len() <= MOST_DIGITS && are_digits(field) && !leads_with_zero(field)
 }
 
 fn are_digits(field: &[u8]) -> bool

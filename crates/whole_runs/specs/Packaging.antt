@@ -1,5 +1,5 @@
 -- What the run of a package does.
-use Rattle.std.specs.Prelude.{◌≡◌, ◌⊎◌, ℕ, List, [], ◌∷◌, ◌++◌, map, codes, decimal, true, false, Option, Some, None, Result, Ok, Err}
+use Rattle.std.specs.Prelude.{◌≡◌, ◌⊎◌, ℕ, List, [], ◌∷◌, ◌++◌, true, false, Result, Ok, Err}
 use Rattle.news_types.specs.declared.text.Memory.{Memory}
 use Rattle.news_types.specs.Names.{Bytes}
 use Rattle.news_io.specs.Clock.{ClockMeaning, Gave}
@@ -12,40 +12,30 @@ use Rattle.wire_run.specs.Reading.{IsReadThrough}
 use Rattle.run_status.specs.declared.status.Status.{Status}
 use Rattle.room_reports.specs.Reports.{IsStopped}
 use Rattle.news_room.specs.declared.room.Room.{Room}
-use Rattle.desk_lines.specs.declared.objects.Part.{Part}
+use Rattle.desk_lines.specs.declared.lines.Described.{Described}
+use Rattle.desk_lines.specs.declared.property.LineFault.{LineFault}
+use Rattle.desk_lines.specs.declared.property.LineFault.TheVariants as fault
 use Rattle.desk_lines.specs.declared.property.LineProperty.{LineProperty}
-use Rattle.desk_lines.specs.declared.property.LineProperty.TheVariants as the
 use Rattle.desk_lines.specs.Reading.{then_read}
-use Rattle.desk_lines.specs.Lines.{Bundle, package_object}
+use Rattle.desk_lines.specs.Lines.{package_object}
 use Rattle.desk_answers.specs.Answers.{reply_bytes, denial_bytes, bad_bytes}
-use Rattle.package_members.specs.declared.member.Member.{Member}
 use Rattle.package_rules.specs.declared.publish.Packaged.{Packaged}
-use Rattle.package_rules.specs.Composed.{Composed, composed}
+use Rattle.package_rules.specs.Composed.{Composed, composite}
+use Rattle.package_rules.specs.Report.{no_readers_text}
 use Rattle.package_rules.specs.Publishing.{IsPublished, IfDone}
 use Rattle.whole_runs.specs.Output.{IsTextTold}
 
 -- ---- what an object describes
 
-abbrev pub member_of : Part → Member
-member_of part = record { role = part.role; item = part.item }
-
--- a list of members that makes no package is bad
-abbrev pub as_package : Option Composed → Result Composed LineProperty
-as_package None = Err the.Members
-as_package (Some p) = Ok p
-
-abbrev pub package_by : Bundle → Result Composed LineProperty
-package_by b = as_package (composed b.story (map member_of b.members))
+-- a story with its members is a package
+abbrev pub package_of : Described → Composed
+package_of d = record { story = composite d.story d.members; members = d.members }
 
 -- the package that an object describes, or its first bad property
 abbrev pub package_read : Bytes → Result Composed LineProperty
-package_read bytes = then_read (package_object bytes) package_by
+package_read bytes = then_read (package_object bytes) (λ d. Ok (package_of d))
 
 -- ---- how it is told
-
--- that nobody has every member
-abbrev pub no_readers_text : ℕ → Bytes
-no_readers_text front = codes "{\"answer\":\"no-readers\",\"front\":" ++ decimal front ++ codes "}"
 
 abbrev pub end_line : Bytes → Bytes
 end_line text = text ++ 10 ∷ []
@@ -62,6 +52,11 @@ module _ {O : Type 0} (sink : SinkMeaning O) where
   abbrev pub IsLineTold : Result Bytes Memory → O → O → ℕ → Type 0
   IsLineTold (Ok text) o o' status = IsTextTold sink (end_line text) o o' status
   IsLineTold (Err why) o o' status = IsStopped sink Status.Memory o o' status
+
+  -- the first bad property as a line; or that there was no memory
+  abbrev pub IsFaultTold : LineFault → O → O → ℕ → Type 0
+  IsFaultTold (fault.Bad property) o o' status = IsTextTold sink (end_line (bad_bytes property)) o o' status
+  IsFaultTold fault.Memory o o' status = IsStopped sink Status.Memory o o' status
 
   -- the line of an answer; or the status alone
   abbrev pub IsPackagedTold : Packaged → O → O → ℕ → Type 0

@@ -1,5 +1,5 @@
 -- An input that is read to its end.
-use Rattle.std.specs.Prelude.{ℕ, List, [], Result, Ok, Err}
+use Rattle.std.specs.Prelude.{ℕ, [], Result, Ok, Err}
 use Rattle.std.specs.Global.{Vec}
 use Rattle.news_io.specs.Source.{SourceMeaning}
 use Rattle.line_run.specs.declared.ending.Ending.{Ending}

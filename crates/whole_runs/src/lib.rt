@@ -1,4 +1,4 @@
-//! Runs of the program on an input that is read whole, and its report on a package.
+//! Runs of the program on an input that is read whole: the import of a table, and a package.
 #![tactic(auto)]
 
 mod import;
@@ -7,4 +7,4 @@ mod package;
 mod reading;
 
 pub use import::import_input;
-pub use package::{package_input, tell_contents};
+pub use package::package_input;

@@ -1,26 +1,21 @@
 //! Packages are published, and told.
-ghost use Rattle.std.specs.Prelude.{◌≡◌, ◌++◌, ◌∷◌, [], IfOk, map};
-ghost use Rattle.news_types.specs.Books.{Book};
-ghost use Rattle.news_room.specs.Stands.{SomeBook, Stands};
-ghost use Rattle.desk_answers.specs.Answers.{bad_bytes};
-ghost use Rattle.desk_lines.specs.Reading.{IsReadAs};
-ghost use Rattle.package_rules.specs.Composed.{Composed};
-ghost use Rattle.package_rules.specs.Report.{contents_report as report_of};
-ghost use Rattle.whole_runs.specs.Output.{IsTextTold};
-ghost use Rattle.whole_runs.specs.Packaging.{IsPackageRun, IsPackagedTold, IsLineTold, IsLine, member_of, no_readers_text, package_read};
+ghost use Rattle.std.specs.Prelude.{◌≡◌, IfOk, IsTrue};
+ghost use Rattle.news_types.specs.Fits.{FitsStory};
+ghost use Rattle.news_room.specs.Stands.{SomeBook};
+ghost use Rattle.desk_lines.specs.Reading.{IsRead};
+ghost use Rattle.package_members.specs.Members.{make_package};
+ghost use Rattle.whole_runs.specs.Packaging.{IsPackageRun, IsPackagedTold, IsFaultTold, IsLineTold, IsLine, package_of, package_read};
 
 use crate::output::{tell_stop, tell_text};
 use crate::reading::read_whole;
 use desk_answers::{bad_text, denial_text, reply_text};
-use desk_lines::{LineFault, LineProperty, Part, read_package};
-use itoa::Buffer;
+use desk_lines::{Described, LineFault, read_package};
 use news_io::{Clock, Keeper, Sink, Source};
 use news_room::Room;
 use news_types::{Bytes, Memory, Name};
-use package_rules::{Member, Package, Packaged, contents_report, publish_package};
+use package_rules::{Package, Packaged, no_readers_text, publish_package};
 use run_status::Status;
-use std::alloc::{AllocError, Global};
-use uuid::Uuid;
+use std::alloc::Global;
 
 /// The most bytes of an input that are answered.
 const LONGEST_INPUT: u64 = 4_294_967_296;
@@ -51,38 +46,42 @@ pub fn package_input<S: Source, O: Sink, K: Keeper, C: Clock>(
         Ok(package) => {
             let now = clock.now();
             let packaged = publish_package(alloc, room, now, caller, number, &package);
+            drop(package);
             tell_packaged(alloc, output, packaged)
         }
-        Err(LineFault::Bad { property }) => tell_line(output, bad_text(alloc, property)),
-        Err(LineFault::Memory) => tell_stop(output, Status::Memory),
+        Err(fault) => tell_fault(alloc, output, fault),
     }
 }
 
 /// The package that an object describes.
 fn described(alloc: Global, object: &[u8]) -> Result<Package, LineFault>
-    ensures { IsReadAs (λ (p : Composed). p) (package_read object.now) result }
+    ensures { IsRead (package_read object.now) result }
 {
-    let read = read_package(alloc, object)?;
-    let members = members_of(alloc, &read.members)?;
-    match Package::new(alloc, read.story, &members)? {
-        Some(package) => Ok(package),
-        None => Err(LineFault::Bad {
-            property: LineProperty::Members,
-        }),
+    let described = read_package(alloc, object)?;
+    Ok(package_made(alloc, described)?)
+}
+
+/// The package that is described.
+fn package_made(alloc: Global, described: Described) -> Result<Package, Memory>
+    requires fits { FitsStory described.story }
+    requires make { IsTrue (make_package described.members) }
+    ensures { IfOk result (λ made. made ≡ package_of described) }
+{
+    let Described { story, members } = described;
+    match Package::new(alloc, story, members.as_slice())? {
+        Some(made) => Ok(made),
+        None => unreachable!(),
     }
 }
 
-/// The members that an object describes.
-fn members_of(alloc: Global, parts: &[Part]) -> Result<Vec<Member>, AllocError>
-    ensures { IfOk result (λ members. members.items ≡ map member_of parts.now) }
+/// Tells why an object describes no package, and gives the status.
+fn tell_fault<O: Sink>(alloc: Global, output: &mut O, fault: LineFault) -> u8
+    ensures { IsFaultTold O.sink fault output.old output.new result }
 {
-    parts
-        .iter()
-        .map(|part| Member {
-            role: part.role,
-            item: part.item,
-        })
-        .collect(alloc)
+    match fault {
+        LineFault::Bad { property } => tell_line(output, bad_text(alloc, property)),
+        LineFault::Memory => tell_stop(output, Status::Memory),
+    }
 }
 
 /// Tells what became of a package, and gives the status.
@@ -93,22 +92,11 @@ fn tell_packaged<O: Sink>(alloc: Global, output: &mut O, packaged: Packaged) -> 
         Packaged::Done(reply) => tell_line(output, reply_text(alloc, &reply, false)),
         Packaged::Repeat(reply) => tell_line(output, reply_text(alloc, &reply, true)),
         Packaged::Denied(denial) => tell_line(output, denial_text(alloc, &denial)),
-        Packaged::NoReaders { front } => tell_line(output, front_text(alloc, front)),
+        Packaged::NoReaders { front } => tell_line(output, no_readers_text(alloc, front)),
         Packaged::Fault => tell_stop(output, Status::Store),
         Packaged::Full { .. } => tell_stop(output, Status::Full),
         Packaged::Memory => tell_stop(output, Status::Memory),
     }
-}
-
-/// That nobody has every member, of a list of so many entries.
-fn front_text(alloc: Global, front: u64) -> Result<Bytes, Memory>
-    ensures { IfOk result (λ text. text ≡ no_readers_text front) }
-{
-    let mut digits = Buffer::new();
-    let mut text = String::from_str(alloc, "{\"answer\":\"no-readers\",\"front\":")?;
-    text.push_str(digits.format(front))?;
-    text.push('}')?;
-    Ok(Bytes::of(text.into_bytes()))
 }
 
 /// Tells a text as a line, if there was memory for it, and gives the status.
@@ -128,21 +116,4 @@ fn with_end(text: Result<Bytes, Memory>) -> Result<Bytes, Memory>
     let mut line = text?.into_vec();
     line.push(b'\n')?;
     Ok(Bytes::of(line))
-}
-
-/// Writes what a publication holds, level by level, and its associations in this store, and gives the status.
-pub fn tell_contents<O: Sink, K: Keeper>(
-    alloc: Global,
-    output: &mut O,
-    room: &Room<K>,
-    store: Uuid,
-    number: u32,
-) -> u8
-    requires { SomeBook K.keeper room.now }
-    ensures { (b : Book) → Stands K.keeper room.now b → IsTextTold O.sink (report_of b.list store number) output.old output.new result }
-{
-    match contents_report(alloc, room, store, number) {
-        Ok(text) => tell_text(output, text.as_slice()),
-        Err(Memory) => tell_stop(output, Status::Memory),
-    }
 }

@@ -26,8 +26,8 @@ fn extend_item(kept: &mut Vec<u8>, bytes: &[u8]) -> Result<(), AllocError>
     Ok(())
 }
 
-/// Reads the input to its end.
-fn read_through<S: Source>(
+/// Reads the input to its end, and keeps its first bytes, as many as matter.
+pub fn read_through<S: Source>(
     input: &mut S,
     kept: &mut Vec<u8>,
     piece: &mut [u8],

@@ -13,7 +13,7 @@ mod wire;
 mod words;
 
 pub use ingesting::Ingesting;
-pub use item::answer_item;
+pub use item::{answer_item, read_through};
 pub use laws::decided_law;
 pub use run::{run_item, run_wire};
 pub use wire::answer_wire;

@@ -1,11 +1,11 @@
 use Rattle.std.proofs.Common.{Bor, List, ℕ, ◌≡◌, ◌∙◌, sym, refl, rules, inl, inr, true, map, Some, ◌∷◌, []}
 use Rattle.std.specs.Result.{is_ok}
 use Rattle.std.proofs.lemmas.List.{map-append}
-use Rattle.csv.specs.Reading.{Reached, default_config, strip_bom, with_flexible, with_names_headers}
+use Rattle.csv.specs.Reading.{Reached, default_config, strip_bom, with_flexible}
 use Rattle.csv.specs.Records.{fields_of}
 use Rattle.csv.specs.declared.parser.State.TheVariants as st
 use Rattle.csv.proofs.ReadFacts.{rows-end, rows-more}
-use Rattle.subscriber_import.proofs.Records.{rows_are_records}
+use Rattle.subscriber_import.proofs.Records.{rows_are_records, stops}
 use Rattle.subscriber_import.proofs.table.read_table.Goals as goal
 
 pub loop-row-init : goal.loop-row-init
@@ -25,6 +25,7 @@ loop-row-init c =
       strip_bom c.args.table.now,
       fr.source,
       (sym fr.state, refl),
+      rw f at fr.flexible,
     )
 
 pub loop-row-preserved : goal.loop-row-preserved
@@ -34,11 +35,17 @@ loop-row-preserved c =
     let good : is_ok c.push.result ≡ true = search rules in
     let items = rw good at c.push.ensures.items in
     let m = rows-more (λ (s : Bor (List ℕ)). Some s.now) c.loop-row.row-iterator.rdr c.next.new.self.rdr (fields_of c.in-Ok.row) default_config st.StartRecord (strip_bom c.args.table.now) inv.4 (map fields_of c.loop-row.records.items) inv.3 inv.5 inv.6 s.0 in
-    (s.0.3 ∙ inv.0, inl s.1, s.2, s.0.2 ∙ inv.3, m.0, m.1, rw (items, map-append fields_of c.loop-row.records.items (c.in-Ok.row ∷ [])) m.2)
+    (s.0.3 ∙ inv.0, inl s.1, s.2, s.0.2 ∙ inv.3, m.0, m.1, rw (items, map-append fields_of c.loop-row.records.items (c.in-Ok.row ∷ [])) m.2, rw (c.in-Some.is, c.in-Ok.is) at ((c.next.ensures.steps inv.2 inv.0).3) ∙ inv.7)
+
+pub no_memory-requires : goal.no_memory-requires
+no_memory-requires c =
+    let inv = c.loop-row.invariant in
+    let s = rw (c.in-Some.is, c.in-Err.is) at ((c.next.ensures.steps inv.2 inv.0).0 inv.1) in
+    stops (λ (s : Bor (List ℕ)). Some s.now) c.loop-row.row-iterator.rdr c.next.new.self.rdr c.in-Err.error.kind inv.7 s
 
 pub returns : goal.returns
 returns c =
     let inv = c.loop-row.invariant in
     let s = rw c.in-None.is at ((c.next.ensures.steps inv.2 inv.0).0 inv.1) in
     sym (rows_are_records c.args.table.now (map fields_of c.loop-row.records.items)
-      (c.loop-row.row-iterator.rdr.state, inv.4, inv.6, rows-end (λ (s : Bor (List ℕ)). Some s.now) c.loop-row.row-iterator.rdr c.next.new.self.rdr [] default_config inv.4 inv.3 inv.5 s))
+    (c.loop-row.row-iterator.rdr.state, inv.4, inv.6, rows-end (λ (s : Bor (List ℕ)). Some s.now) c.loop-row.row-iterator.rdr c.next.new.self.rdr [] default_config inv.4 inv.3 inv.5 s))
