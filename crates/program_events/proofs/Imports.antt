@@ -211,8 +211,7 @@ module _ {D : Type 0} (disk : DiskMeaning D) (log log' side side' : D) (status :
   imports_are (Some rows) (Imported.Full size count) a =
       let b = at_world (Some rows) (Imported.Full size count) a in
       let r = b.did.1 in
-      let s = adding caller at h rows more r.next r.rest r.is in
-      (
+      let s = adding caller at h rows more r.next r.rest r.is in (
         row_events h caller at s.before ++ wanted_events (imported h caller at s.before) caller at (wanted_of s.row) IsFull,
         (
           record { before = s.before; row = s.row; rest = s.rest; are = s.are; next = r.next; adds = s.adds; events_are = refl },
@@ -222,16 +221,15 @@ module _ {D : Type 0} (disk : DiskMeaning D) (log log' side side' : D) (status :
   imports_are (Some rows) Imported.Fault a =
       let b = at_world (Some rows) Imported.Fault a in
       let r = b.did.1 in
-      let s = adding caller at h rows more r.next r.rest r.is in
-      (
+      let s = adding caller at h rows more r.next r.rest r.is in (
         row_events h caller at s.before ++ wanted_events (imported h caller at s.before) caller at (wanted_of s.row) IsFailed,
         (
           record { before = s.before; row = s.row; rest = s.rest; are = s.are; next = r.next; adds = s.adds; events_are = refl },
           stopped_leads rows a.stands s.before s.row r.next IsFailed s.kept s.adds refl
-          (λ x d. elim ((b.told refl).doubt (entry_bytes x) d.1) [
-            | inl was ↦ absurd (none_before disk log log' side side' status went tells tells' write w same (entry_bytes x) (still_none (k.doubts went.room.keeper) more (entry_bytes x) was))
-            | inr tried ↦ (same_entry x tried.0 d.0 tried.3 tried.4 ∙ same_next more tried.0 r.next tried.1 r.rest (sym tried.2 ∙ r.is), refl)
-          ]),
+              (λ x d. elim ((b.told refl).doubt (entry_bytes x) d.1) [
+                | inl was ↦ absurd (none_before disk log log' side side' status went tells tells' write w same (entry_bytes x) (still_none (k.doubts went.room.keeper) more (entry_bytes x) was))
+                | inr tried ↦ (same_entry x tried.0 d.0 tried.3 tried.4 ∙ same_next more tried.0 r.next tried.1 r.rest (sym tried.2 ∙ r.is), refl)
+              ]),
         ),
       )
 

@@ -146,9 +146,6 @@ module _ {D : Type 0} (disk : DiskMeaning D) (log log' side side' : D) (status :
       tick_lead : Lead write w (Ticks at IsKept ∷ []) behind.list
       tick_lead = step_lead write w [] here.list start (Ticks at IsKept) next IsKept (λ v. refl) released fares
 
-
-
-
       -- nothing was asked behind it
       still_leads : went.after ≡ mid → LeadsOn write w (went.files tells tells').list (in_doubt k went.after) (Ticks at IsKept ∷ [])
       still_leads is =
@@ -191,8 +188,7 @@ module _ {D : Type 0} (disk : DiskMeaning D) (log log' side side' : D) (status :
 
       flash_is : (answer : Packaged) (handled : Handled) → answer ≡ packaged_by handled → IsFlashed k mid went.after at caller number p handled → (events : List Event) × Is answer events
       flash_is answer handled is f =
-          let events : List Event = Ticks at IsKept ∷ Requests caller number (flash_of p behind.list) at (flash_fate handled) ∷ [] in
-          (
+          let events : List Event = Ticks at IsKept ∷ Requests caller number (flash_of p behind.list) at (flash_fate handled) ∷ [] in (
             events,
             (
               inr (inr (record {
@@ -241,10 +237,10 @@ module _ {D : Type 0} (disk : DiskMeaning D) (log log' side side' : D) (status :
       (
         inl (record { fate = fate; events_are = refl; why = why }),
         ends (Ticks at fate ∷ []) behind refl (subst (λ (r : Room (Pair D)). Stands k r behind) (sym is) tick.stands)
-        (step_lead write w [] here.list start (Ticks at fate) next fate (λ v. refl) released fares)
-        (λ e d.
-        let found = doubt e (subst (λ (r : Room (Pair D)). in_doubt k r e) is d) in
-        failed_doubt write w [] here.list start (Ticks at fate) next fate (λ v. refl) released fares e found.0 found.1),
+            (step_lead write w [] here.list start (Ticks at fate) next fate (λ v. refl) released fares)
+            (λ e d.
+            let found = doubt e (subst (λ (r : Room (Pair D)). in_doubt k r e) is d) in
+            failed_doubt write w [] here.list start (Ticks at fate) next fate (λ v. refl) released fares e found.0 found.1),
       ),
     )
 

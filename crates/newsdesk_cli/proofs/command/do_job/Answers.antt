@@ -111,7 +111,7 @@ pub returns-in-Package-clause-links : goal.returns-in-Package-clause-links
 returns-in-Package-clause-links g c other = refl
 
 pub returns-in-Archive-clause-does : goal.returns-in-Archive-clause-does
-returns-in-Archive-clause-does g c = 
+returns-in-Archive-clause-does g c =
     let query = λ q. IsArchive g.D.Disk.disk g.O.Sink.sink c.in-Archive.page q c.args.log c.ask_archive.result.1 c.args.side c.ask_archive.result.2 c.args.output.now c.ask_archive.new.output c.ask_archive.result.0 in
     rw c.in-Archive.is (record { input_same = refl; clock_same = refl }, subst query c.as_str.ensures c.ask_archive.ensures)
 
