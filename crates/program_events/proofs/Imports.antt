@@ -68,19 +68,20 @@ module _ (caller : Bytes) (at : ℕ) where
 
   pub adding : (h : History) (rows : List Row) (more : List Entry) (e : Entry) (rest : List Entry) → added h caller at rows ≡ more ++ e ∷ rest → Adds h caller at rows more e
   adding h [] more e rest is = absurd (no_more more e rest is)
-  adding h (row ∷ rows) more e rest is = by (added_by h caller at (wanted_of row)) refl more is
+  adding h (row ∷ rows) more e rest is = by (λ some later. adding (behind h caller at row) rows some e rest later) (added_by h caller at (wanted_of row)) refl more is
     where
-      by : (o : Option Entry) → added_by h caller at (wanted_of row) ≡ o → (more : List Entry) → entries o ++ added (behind h caller at row) caller at rows ≡ more ++ e ∷ rest → Adds h caller at (row ∷ rows) more e
-      by None none more all =
-          subst (λ (o : Option Entry). Adds h caller at (row ∷ rows) (entries o ++ more) e) none (put_before h row rows more e (adding (behind h caller at row) rows more e rest all))
-      by (Some x) some [] all =
+      by : ((more : List Entry) → added (behind h caller at row) caller at rows ≡ more ++ e ∷ rest → Adds (behind h caller at row) caller at rows more e)
+          → (o : Option Entry) → added_by h caller at (wanted_of row) ≡ o → (more : List Entry) → entries o ++ added (behind h caller at row) caller at rows ≡ more ++ e ∷ rest → Adds h caller at (row ∷ rows) more e
+      by later None none more all =
+          subst (λ (o : Option Entry). Adds h caller at (row ∷ rows) (entries o ++ more) e) none (put_before h row rows more e (later more all))
+      by later (Some x) some [] all =
           let same : x ≡ e = cc in
           record { before = []; row = row; rest = rows; are = refl; kept = refl; adds = some ∙ ap Some same }
-      by (Some x) some (m ∷ more) all =
+      by later (Some x) some (m ∷ more) all =
           let same : x ≡ m = cc in
-          let later : added (behind h caller at row) caller at rows ≡ more ++ e ∷ rest = cc in
+          let tail : added (behind h caller at row) caller at rows ≡ more ++ e ∷ rest = cc in
           subst (λ (l : List Entry). Adds h caller at (row ∷ rows) l e) (ap (λ (o : Option Entry). entries o ++ more) some ∙ ap (λ (y : Entry). y ∷ more) same)
-          (put_before h row rows more e (adding (behind h caller at row) rows more e rest later))
+          (put_before h row rows more e (later more tail))
 
 -- what stands behind the same entries
 same_next : (more : List Entry) (x y : Entry) (rest later : List Entry) → more ++ x ∷ rest ≡ more ++ y ∷ later → x ≡ y
