@@ -7,3 +7,4 @@ pub mod Cutting
 pub mod Verdicts
 pub mod Joining
 pub mod Once
+pub mod Folding

@@ -51,9 +51,21 @@ impl<'a> Model for Subject<'a> {
     ghost invariant = { λ s. AreFolds s.story.now s.folds.items };
 }
 
-/// The text without its case, by full case folding.
-#[tactic(auto, unfolding(news_types::specs::Conditions::folded))]
+/// The text without its case, by full case folding. ASCII is folded byte by byte.
+#[tactic(auto, using(crate::proofs::Folding::lower_folded))]
 pub(crate) fn folded_text(alloc: Global, text: &str) -> Result<String, Memory>
+    ensures { IfOk result (λ t. string_bytes t ≡ folded text.now) }
+{
+    if text.is_ascii() {
+        Ok(text.to_ascii_lowercase(alloc)?)
+    } else {
+        folded_characters(alloc, text)
+    }
+}
+
+/// The same, character by character.
+#[tactic(auto, unfolding(news_types::specs::Conditions::folded))]
+fn folded_characters(alloc: Global, text: &str) -> Result<String, Memory>
     ensures { IfOk result (λ t. string_bytes t ≡ folded text.now) }
 {
     Ok(default_case_fold_str(alloc, text)?)

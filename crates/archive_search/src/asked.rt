@@ -51,12 +51,7 @@ pub(crate) fn ask_archive<K: Keeper>(
 }
 
 /// What a query finds.
-fn find_hits<K: Keeper>(
-    alloc: Global,
-    room: &Room<K>,
-    ask: &Ask,
-    page: u32,
-) -> Result<Hits, Memory>
+fn find_hits<K: Keeper>(alloc: Global, room: &Room<K>, ask: &Ask, page: u32) -> Result<Hits, Memory>
     requires { SomeBook K.keeper room.now }
     ensures { IfOk result (λ found. (b : Book) → Stands K.keeper room.now b → AreHits b.list (query_of ask.now) page found) }
 {

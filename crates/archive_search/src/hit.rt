@@ -57,11 +57,7 @@ pub(crate) fn hits_of<K: Keeper>(
 }
 
 /// Adds what is told of the publication of that number, if there is one.
-fn add_hit<K: Keeper>(
-    hits: &mut Vec<Hit>,
-    room: &Room<K>,
-    number: u32,
-) -> Result<(), Memory>
+fn add_hit<K: Keeper>(hits: &mut Vec<Hit>, room: &Room<K>, number: u32) -> Result<(), Memory>
     ensures { (b : Book) → Stands K.keeper room.now b → OnOk result (hits.new.items ≡ hits.old.items ++ hit_at (publication_at number (pubs b.list))) }
 {
     match room.published(number) {

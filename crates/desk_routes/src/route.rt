@@ -45,11 +45,8 @@ impl Route {
         ensures { result.now ≡ method_of self }
     {
         match self {
-            Route::Requests
-            | Route::Receipts
-            | Route::Ingest
-            | Route::Archive
-            | Route::Packages => "POST",
+            Route::Requests | Route::Receipts | Route::Ingest | Route::Archive | Route::Packages =>
+                "POST",
             Route::Item | Route::Queue | Route::FeedAfter | Route::Frame => "GET",
         }
     }

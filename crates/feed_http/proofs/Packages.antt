@@ -133,15 +133,15 @@ module _ {K : Type 0} (keeper : KeeperMeaning K) (caller : Bytes) (number : ℕ)
     given : Given (numbers keeper old mid) LIMIT ticks released
     given = tick_given (numbers keeper old mid) b now released t passed tick_happens.step
 
-    at : g ≡ ticked h m
-    at = behind_tick (numbers keeper old mid) b now released given
+    list_is : g ≡ ticked h m
+    list_is = behind_tick (numbers keeper old mid) b now released given
 
     moment_is : moment_at g now ≡ m
-    moment_is = ap (λ (l : History). moment_at l now) at ∙ moment_behind h now
+    moment_is = ap (λ (l : History). moment_at l now) list_is ∙ moment_behind h now
 
     outcome_is : ask_outcome (the_writer b.store) h (ask.Package caller number described) m ≡ with_tick h m P
     outcome_is = packages (the_writer b.store) h caller number described m
-        ∙ sym (λ i. with_tick h m (package_outcome (the_writer b.store) (at i) (moment_is i) caller number p))
+        ∙ sym (λ i. with_tick h m (package_outcome (the_writer b.store) (list_is i) (moment_is i) caller number p))
 
     after_tick : After keeper old mid b ticks released false (Unit {0})
     after_tick = record {
@@ -332,5 +332,8 @@ module _ {K : Type 0} (keeper : KeeperMeaning K) (caller : Bytes) (number : ℕ)
 
   -- there was no memory for the package
   pub unmade_turn : (room : Room K) → response ≡ notice_response notice.NoMemory → TurnedTo room room
-  unmade_turn room none = ([], λ b stands. still_turn keeper room b (ask_outcome (the_writer b.store) b.list (ask.Package caller number described) (moment_at b.list now)) response (PackageEvents keeper room room b [] caller number p now response) stands
-      (unheard keeper room (ask_outcome (the_writer b.store) b.list (ask.Package caller number described) (moment_at b.list now)) response none) (inl (still keeper room)))
+  unmade_turn room none = (
+    [],
+    λ b stands. still_turn keeper room b (ask_outcome (the_writer b.store) b.list (ask.Package caller number described) (moment_at b.list now)) response (PackageEvents keeper room room b [] caller number p now response) stands
+        (unheard keeper room (ask_outcome (the_writer b.store) b.list (ask.Package caller number described) (moment_at b.list now)) response none) (inl (still keeper room)),
+  )

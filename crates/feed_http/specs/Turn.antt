@@ -1,5 +1,5 @@
 -- What a request's turn makes of a room, and the turn as events of the world.
-use Rattle.std.specs.Prelude.{◌≡◌, ◌⊎◌, ◌==◌, ℕ, Bool, true, false, List, [], ◌++◌, Result, Ok, Err}
+use Rattle.std.specs.Prelude.{◌≡◌, ◌⊎◌, ◌==◌, ℕ, Bool, true, List, [], ◌++◌, Result, Ok, Err}
 use Rattle.news_types.specs.declared.entry.Entry.{Entry}
 use Rattle.news_types.specs.declared.query.Query.{Query}
 use Rattle.news_types.specs.declared.Memory.{Memory as NoMemory}
@@ -11,7 +11,7 @@ use Rattle.news_io.specs.Keeper.{KeeperMeaning}
 use Rattle.feed_frames.specs.Writer.{the_writer}
 use Rattle.news_room.specs.Beside.{Beside}
 use Rattle.news_room.specs.Stands.{Stands, limit_for, numbers}
-use Rattle.news_room.specs.Steps.{Whole, Given, Refused, Failed, ToldStep}
+use Rattle.news_room.specs.Steps.{Given, Refused, Failed, ToldStep}
 use Rattle.news_room.specs.Events.{IsEvent}
 use Rattle.news_room.specs.declared.room.Room.{Room}
 use Rattle.http_wire.specs.declared.request.HttpRequest.{HttpRequest}

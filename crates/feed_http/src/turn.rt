@@ -143,7 +143,10 @@ fn answer_package<K: Keeper>(
     ensures { (more : List Entry) × ((b : Book) → Stands K.keeper room.old b → AskTurn K.keeper room.old room.new b more (asked.Package caller number described) now result) }
 {
     match described_package(alloc, described) {
-        Ok(made) => tell_packaged(alloc, publish_package(alloc, room, now, caller, number, &made)),
+        Ok(made) => tell_packaged(
+            alloc,
+            publish_package(alloc, room, now, caller, number, &made),
+        ),
         Err(_) => notify(alloc, Notice::NoMemory),
     }
 }

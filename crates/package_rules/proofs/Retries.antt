@@ -14,7 +14,7 @@ use Rattle.news_types.specs.History.{History, Asked, last, moment_at}
 use Rattle.news_types.specs.Denial.{unless, or_else, same_command, turn_denial, is_repeat, command_denial}
 use Rattle.news_types.specs.Outcome.{Outcome, Answered, Repeat, Denied, kept_unless, kept, request, last_reply}
 use Rattle.news_types.proofs.Equality.{equality_is_of_fields}
-use Rattle.package_rules.specs.Promise.{WasLast, IsNotTwice, RetriesAreNotTwice}
+use Rattle.package_rules.specs.Promise.{WasLast, IsNotTwice, OlderAreOutOfTurn, RetriesAreNotTwice}
 
 -- the outcome of a request whose caller's last one is this
 abbrev behind : History → Bytes → ℕ → Command → ℕ → Option Asked → Outcome Answered
@@ -53,3 +53,27 @@ not_twice h caller number story targets now some was = record {
         by : (b : Bool) → same_command (Flash story targets) (Flash story others) ≡ b → b ≡ false
         by false is = refl
         by true is = absurd (differ (targets_are story targets others (equality_is_of_fields.commands.is (Flash story targets) (Flash story others) is)))
+
+-- ---- an older one
+
+-- the outcome of request n, where the caller's last one has another number
+abbrev decided_at : History → Bytes → ℕ → ℕ → Command → ℕ → (some here next alike : Bool) → Outcome Answered
+decided_at h caller n number command m some here next alike =
+    kept_unless (or_else (unless (some && (here || next)) (OutOfTurn (number + 1))) (unless (not here || alike) (NumberUsed number)))
+    (cond (some && here && alike) (record { answer = Repeat (last_reply h caller); more = None })
+    (kept_unless (command_denial h caller command m) (kept h m (Request caller n command))))
+
+module _ (h : History) (caller : Bytes) (number n : ℕ) (command : Command) (m : ℕ) (alike : Bool) where
+  denied : (some : Bool) → decided_at h caller n number command m some false false alike ≡ record { answer = Denied (OutOfTurn (number + 1)); more = None }
+  denied true = refl
+  denied false = refl
+
+pub out_of_turn : OlderAreOutOfTurn
+out_of_turn h caller number n newest command now was below =
+    let here : (n == number) ≡ false = grind (arith, nat_tests, below) in
+    let next : (n == number + 1) ≡ false = grind (arith, nat_tests, below) in
+    let m : ℕ = moment_at h now in
+    let alike : Bool = same_command newest command in
+    ap (behind h caller n command m) was
+    ∙ ap (λ (t : Bool × Bool). decided_at h caller n number command m (nat_lt 0 n) t.0 t.1 alike) (λ i. (here i, next i))
+    ∙ denied h caller number n command m alike (nat_lt 0 n)

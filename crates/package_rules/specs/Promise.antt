@@ -3,8 +3,9 @@ use Rattle.std.specs.Prelude.{◌≡◌, ℕ, ◌+◌, ◌<◌, ◌&&◌, IsTrue
 use Rattle.std.specs.List.{list_any}
 use Rattle.news_types.specs.declared.entry.Entry.{Entry}
 use Rattle.news_types.specs.declared.entry.Act.TheVariants.{Request}
+use Rattle.news_types.specs.declared.command.Command.{Command}
 use Rattle.news_types.specs.declared.command.Command.TheVariants.{Flash}
-use Rattle.news_types.specs.declared.denial.Denial.TheVariants.{NumberUsed}
+use Rattle.news_types.specs.declared.denial.Denial.TheVariants.{OutOfTurn, NumberUsed}
 use Rattle.news_types.specs.declared.story.Story.{Story}
 use Rattle.news_types.specs.Names.{Bytes, is_in}
 use Rattle.news_types.specs.History.{History, last}
@@ -59,3 +60,8 @@ pub record IsNotTwice (h : History) (caller : Bytes) (number : ℕ) (story : Sto
 
 abbrev pub RetriesAreNotTwice : Type 0
 RetriesAreNotTwice = (h : History) (caller : Bytes) (number : ℕ) (story : Story) (targets : List Bytes) (now : ℕ) → 0 < number → WasLast h caller number story targets → IsNotTwice h caller number story targets now
+
+-- an older one, whose number is below the last one's, is out of turn, and adds no entry either
+abbrev pub OlderAreOutOfTurn : Type 0
+OlderAreOutOfTurn = (h : History) (caller : Bytes) (number n : ℕ) (newest command : Command) (now : ℕ) → last h caller ≡ Some (record { number = number; command = newest }) → n < number
+    → request h caller n command now ≡ record { answer = Denied (OutOfTurn (number + 1)); more = None }

@@ -3,8 +3,8 @@ ghost use Rattle.std.specs.Prelude.{◌≡◌, ◌++◌, ◌∷◌, [], ℕ, OnO
 ghost use Rattle.std.specs.HashSet.{contains};
 ghost use Rattle.package_rules.specs.Opening.{line_of};
 
-use package_members::Member;
 use news_types::{Memory, Name};
+use package_members::Member;
 use std::collections::HashSet;
 use std::marker::Model;
 

@@ -5,8 +5,8 @@ ghost use Rattle.news_types.specs.Due.{takes_back};
 ghost use Rattle.package_rules.specs.declared.marks.Mark.{Mark as SeenMark};
 ghost use Rattle.package_rules.specs.Marks.{has_behind as has_item_behind, mark_behind, mark_of, last_row};
 
-use package_members::Member;
 use news_types::{FeedRow, Kind};
+use package_members::Member;
 use std::alloc::{AllocError, Global};
 
 /// Whether a feed has a member, as far as it was read.

@@ -3,9 +3,9 @@ ghost use Rattle.std.specs.Prelude.{◌≡◌, IfOk};
 ghost use Rattle.news_types.specs.Fits.{FitsStory};
 ghost use Rattle.package_rules.specs.Composed.{composed, with_body};
 
-use package_members::{Member, Members, makes_package};
 use crate::text::package_text;
 use news_types::{Media, Memory, Story, Text};
+use package_members::{Member, Members, makes_package};
 use std::alloc::Global;
 use std::marker::Model;
 

@@ -8,10 +8,10 @@ ghost use Rattle.package_rules.specs.Finding.{IsFeedPage, names_of};
 ghost use Rattle.package_rules.specs.Readers.{has_all, readers};
 
 use crate::marks::{are_set, marks_behind, new_marks};
-use package_members::Member;
 use news_io::Keeper;
 use news_room::Room;
 use news_types::{Answer, FeedRows, Memory, Name, Names, Query, QueueRow, QueueRows};
+use package_members::Member;
 use std::alloc::Global;
 
 /// The most entries of a feed that a question is answered.

@@ -9,10 +9,10 @@ ghost use Rattle.package_rules.specs.Opening.{members_of_story};
 ghost use Rattle.package_rules.specs.Text as said;
 ghost use Rattle.package_rules.specs.Text.{IsTextOf, member_at, members_at, lines_of, package_of};
 
-use package_members::{MOST_MEMBERS, Member, Members, makes_package};
 use byte_formats::{Input, Stopped};
 use itoa::Buffer;
 use news_types::{Media, Memory, Story, Text};
+use package_members::{MOST_MEMBERS, Member, Members, makes_package};
 use std::alloc::{AllocError, Global};
 
 /// The first line.

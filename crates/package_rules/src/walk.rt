@@ -6,11 +6,11 @@ ghost use Rattle.package_rules.specs.Opening.{contents as contents_of, members_i
 ghost use Rattle.package_rules.specs.Walking.{IsAt};
 
 use crate::lines::{Contents, Steps, is_new, put_line};
-use package_members::Members;
 use crate::text::named_members;
 use news_io::Keeper;
 use news_room::Room;
 use news_types::{Answer, Memory, Query};
+use package_members::Members;
 use std::alloc::Global;
 use std::collections::HashSet;
 
@@ -20,7 +20,8 @@ const MOST_LEVELS: u32 = 32;
 /// The members of a publication, each with the newest publication of its item before it, which is opened in its place, one
 /// level deeper.
 ///
-/// No publication is opened twice, and none 32 levels deep. A number that is no publication has no lines, and neither has a
+/// No publication is opened twice, and none 32 levels deep: however packages hold each other, its calls nest at most 33 deep,
+/// and there are at most 64 lines for each publication. A number that is no publication has no lines, and neither has a
 /// publication whose story is not composite with the text of a package.
 pub fn contents<K: Keeper>(alloc: Global, room: &Room<K>, number: u32) -> Result<Contents, Memory>
     requires { SomeBook K.keeper room.now }

@@ -66,7 +66,7 @@ module _ (caller : Bytes) (at : ℕ) where
     adds = a.adds;
   }
 
-  pub adding : (h : History) (rows : List Row) (more : List Entry) (e : Entry) (rest : List Entry) → added h caller at rows ≡ more ++ e ∷ rest → Adds h caller at rows more e
+  adding : (h : History) (rows : List Row) (more : List Entry) (e : Entry) (rest : List Entry) → added h caller at rows ≡ more ++ e ∷ rest → Adds h caller at rows more e
   adding h [] more e rest is = absurd (no_more more e rest is)
   adding h (row ∷ rows) more e rest is = by (λ some later. adding (behind h caller at row) rows some e rest later) (added_by h caller at (wanted_of row)) refl more is
     where

@@ -12,9 +12,9 @@ ghost use Rattle.news_room.specs.Stands.{Stands, SomeBook};
 ghost use Rattle.room_runs.specs.Lines.{archive_bytes, has_answer, no_frames};
 ghost use Rattle.room_runs.specs.Texts.{IsText};
 
-use archive_search::{Told, tell_archive};
 use crate::scope::can_tell;
 use crate::texts::{bad_line, question_answered, receipt_answered, request_answered};
+use archive_search::{Told, tell_archive};
 use desk_lines::{Asked, LineFault, LineProperty, read_line};
 use line_run::{Answering, Stopped};
 use news_io::{Clock, Keeper};
