@@ -203,12 +203,12 @@ module _ {D : Type 0} (disk : DiskMeaning D) (log log' side side' : D) (status :
       ([], ((a.did.why, refl), calm_leads [] a.stands [] (sym a.did.none.is) (calm_by [] (a.told refl).doubt)))
   imports_are (Some rows) (Imported.Done told) a =
       let b = at_world (Some rows) (Imported.Done told) a in
-      (row_events h caller at rows, ((b.did.0, refl), calm_leads rows a.stands rows (sym b.did.1.whole.is) (calm_by _ (a.told refl).doubt)))
+      (row_events h caller at rows, ((b.did.0, refl), calm_leads rows a.stands rows (sym b.did.1.whole.is) (calm_by (added here.list caller at rows) (a.told refl).doubt)))
   imports_are (Some rows) Imported.BadHead a = absurd a.did
   imports_are (Some rows) Imported.Memory a =
       let b = at_world (Some rows) Imported.Memory a in
       let s = b.did.0 in
-      (row_events h caller at s.before, (record { before = s.before; rest = s.rest; are = s.are; events_are = refl }, calm_leads rows a.stands s.before (sym s.kept) (calm_by _ (a.told refl).doubt)))
+      (row_events h caller at s.before, (record { before = s.before; rest = s.rest; are = s.are; events_are = refl }, calm_leads rows a.stands s.before (sym s.kept) (calm_by (added here.list caller at rows) (a.told refl).doubt)))
   imports_are (Some rows) (Imported.Full size count) a =
       let b = at_world (Some rows) (Imported.Full size count) a in
       let r = b.did.1 in
@@ -216,7 +216,7 @@ module _ {D : Type 0} (disk : DiskMeaning D) (log log' side side' : D) (status :
         row_events h caller at s.before ++ wanted_events (imported h caller at s.before) caller at (wanted_of s.row) IsFull,
         (
           record { before = s.before; row = s.row; rest = s.rest; are = s.are; next = r.next; adds = s.adds; events_are = refl },
-          stopped_leads rows a.stands s.before s.row r.next IsFull s.kept s.adds refl (λ x d. absurd (calm_by _ (a.told refl).doubt x d)),
+          stopped_leads rows a.stands s.before s.row r.next IsFull s.kept s.adds refl (λ x d. absurd (calm_by (added here.list caller at rows) (a.told refl).doubt x d)),
         ),
       )
   imports_are (Some rows) Imported.Fault a =
