@@ -8,7 +8,9 @@ ghost use Rattle.news_types.specs.Books.{Book};
 ghost use Rattle.news_types.specs.Calls.{Asked, Ingested, Requested};
 ghost use Rattle.news_types.specs.Due.{shown};
 ghost use Rattle.news_types.specs.Publications.{pubs};
+ghost use Rattle.news_types.specs.Feeds.{feed};
 ghost use Rattle.news_types.specs.Answers.{query_answer, publication_at};
+ghost use Rattle.story_tables.specs.Holding.{has_item};
 ghost use Rattle.story_tables.specs.Pages.{publication_of};
 ghost use Rattle.news_types.specs.Frames.{frame_bytes_at};
 ghost use Rattle.feed_frames.specs.Writer.{the_writer};
@@ -211,6 +213,14 @@ impl<K: Keeper> Room<K> {
         ensures { (b : Book) → Stands K.keeper self.now b → option_map (publication_of number) (option_copied result) ≡ option_map shown (publication_at number (pubs b.list)) }
     {
         self.machine.published(number)
+    }
+
+    /// Whether the feed of a subscriber has a publication of the item, the last of which is no kill or recall. It takes no
+    /// memory.
+    pub fn has_item(&self, subscriber: &Name, item: u32) -> bool
+        ensures { (b : Book) → Stands K.keeper self.now b → result ≡ has_item (feed b.list subscriber.now) item }
+    {
+        self.machine.has_item(subscriber, item)
     }
 }
 

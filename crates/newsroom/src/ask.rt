@@ -6,9 +6,11 @@ ghost use Rattle.news_types.specs.Names.{Bytes};
 ghost use Rattle.news_types.specs.History.{History};
 ghost use Rattle.news_types.specs.Due.{shown};
 ghost use Rattle.news_types.specs.Publications.{pubs};
+ghost use Rattle.news_types.specs.Feeds.{feed};
 ghost use Rattle.news_types.specs.Answers.{query_answer, publication_at};
 ghost use Rattle.news_types.specs.Frames.{frame_bytes_at};
 ghost use Rattle.feed_frames.specs.Writer.{the_writer};
+ghost use Rattle.story_tables.specs.Holding.{has_item};
 ghost use Rattle.story_tables.specs.Pages.{publication_of};
 ghost use Rattle.newsroom.specs.Asking.{asks_frame, item_told, publication_told};
 ghost use Rattle.newsroom.specs.Stands.{StandsFor, Stands, store_of};
@@ -36,6 +38,14 @@ impl Newsroom {
         ensures { (h : History) → StandsFor self.now h → option_map (publication_of number) (option_copied result) ≡ option_map shown (publication_at number (pubs h)) }
     {
         self.stories.published(number)
+    }
+
+    /// Whether the feed of a subscriber has a publication of the item, the last of which is no kill or recall. It takes no
+    /// memory.
+    pub fn has_item(&self, subscriber: &Name, item: u32) -> bool
+        ensures { (h : History) → StandsFor self.now h → result ≡ has_item (feed h subscriber.now) item }
+    {
+        self.stories.has_item(subscriber, item, self.moment)
     }
 
     // Answers a question that is none for a frame.

@@ -1,106 +1,21 @@
--- The readers of a package are found by the pages of all feeds.
-use Rattle.std.proofs.Common.{◌≡◌, if◌then◌else◌, ℕ, zero, suc, ◌+◌, ◌<◌, ◌≤◌, Bool, true, false, cond, List, [], ◌∷◌, ◌++◌, length, take, drop, get_or, map, Option, Some, None, refl, sym, ap, subst, ◌∙◌, append-nil, arith}
-use Rattle.std.specs.Prelude.{◌^◌, IfSome, MatchOption}
-use Rattle.std.specs.List.{filter, list_all}
+-- The readers of a package are found among all subscribers.
+use Rattle.std.proofs.Common.{◌≡◌, ℕ, suc, ◌+◌, ◌<◌, ◌≤◌, Bool, true, false, cond, List, [], ◌∷◌, ◌++◌, length, take, get_or, refl, sym, ap, subst, ◌∙◌, append-nil, arith}
+use Rattle.std.specs.List.{filter}
 use Rattle.std.proofs.lemmas.List.{take_all, take_more, map-append}
 use Rattle.std.proofs.lemmas.List.Elements.{filter-append}
-use Rattle.news_types.specs.declared.query.Answer.{Answer}
 use Rattle.news_types.specs.declared.query.Answer.TheVariants as told
 use Rattle.news_types.specs.declared.query.Query.TheVariants as query
-use Rattle.news_types.specs.declared.query.FeedRow.{FeedRow}
 use Rattle.news_types.specs.declared.query.QueueRow.{QueueRow}
-use Rattle.news_types.specs.declared.words.Thing.TheVariants as thing
 use Rattle.news_types.specs.Names.{Bytes}
 use Rattle.news_types.specs.History.{History}
 use Rattle.news_types.specs.Legal.{IsLegal}
-use Rattle.news_types.specs.Products.{is_subscriber, subscribers}
-use Rattle.news_types.specs.Feeds.{Dispatch, feed}
-use Rattle.news_types.specs.Answers.{feed_rows, in_order, put_name, query_answer, queue_rows}
-use Rattle.news_types.proofs.Subscribed.{absent_feed}
+use Rattle.news_types.specs.Products.{subscribers}
+use Rattle.news_types.specs.Answers.{in_order, put_name, query_answer, queue_rows}
 use Rattle.news_types.proofs.Limits.{subscribers_limited}
 use Rattle.news_types.proofs.Bounds.{filter_length}
 use Rattle.package_members.specs.declared.member.Member.{Member}
-use Rattle.package_rules.specs.declared.marks.Mark.{Mark}
-use Rattle.package_rules.specs.declared.readers.Page.{Page}
-use Rattle.package_rules.specs.Readers.{has_member, has_all, readers}
-use Rattle.package_rules.specs.Marks.{mark_behind, mark_of}
-use Rattle.package_rules.specs.Finding.{IsFeedPage, names_of}
-use Rattle.package_rules.proofs.Pages.{marks_next, all_set, take_page}
-
--- ---- one page
-
-feed_only : (known : Bool) (subscriber s : Bytes) (count n : ℕ) (rows those : List FeedRow) → told.Feed subscriber count rows ≡ (if known then told.Feed s n those else told.Unknown thing.Subscriber) → (count ≡ n) × (rows ≡ those)
-feed_only true subscriber s count n rows those is = (cc, cc)
-feed_only false subscriber s count n rows those is = absurd cc
-
-not_known : (known : Bool) (answer : Answer) (s : Bytes) (n : ℕ) (those : List FeedRow) → ((subscriber : Bytes) (count : ℕ) (rows : List FeedRow) → answer ≡ told.Feed subscriber count rows → ⊥)
-    → answer ≡ (if known then told.Feed s n those else told.Unknown thing.Subscriber) → known ≡ false
-not_known true answer s n those never is = absurd (never s n those is)
-not_known false answer s n those never is = refl
-
-no_rows : (after : ℕ) → [] ≡ feed_rows (after + 1) (take 100 (drop after []))
-no_rows zero = refl
-no_rows (suc after) = refl
-
-module _ (h : History) (s : Bytes) (after : ℕ) (frames : Bytes → ℕ → Bytes) where
-  pub feed_page_is : (subscriber : Bytes) (count : ℕ) (rows : List FeedRow) (next : Option ℕ) → told.Feed subscriber count rows ≡ query_answer frames h (query.Feed s after)
-      → MatchOption next (count ≤ after + 100) (λ n. (n ≡ after + 100) × (n < count)) → IsFeedPage s after h (record { rows = rows; next = next })
-  feed_page_is subscriber count rows next answers follows =
-      let is = feed_only (is_subscriber h s) subscriber s count (length (feed h s)) rows (feed_rows (after + 1) (take 100 (drop after (feed h s)))) answers in
-      record { rows = is.1; next = subst (λ (c : ℕ). MatchOption next (c ≤ after + 100) (λ n. (n ≡ after + 100) × (n < c))) is.0 follows }
-
-  pub unknown_page_is : (answer : Answer) (rows : List FeedRow) → ((subscriber : Bytes) (count : ℕ) (rows : List FeedRow) → answer ≡ told.Feed subscriber count rows → ⊥) → answer ≡ query_answer frames h (query.Feed s after)
-      → rows ≡ [] → IsFeedPage s after h (record { rows = rows; next = None })
-  unknown_page_is answer rows never answers none =
-      let unknown = not_known (is_subscriber h s) answer s (length (feed h s)) (feed_rows (after + 1) (take 100 (drop after (feed h s)))) never answers in
-      let nothing = absent_feed h s unknown in
-      record {
-        rows = none ∙ no_rows after ∙ ap (λ (ds : List Dispatch). feed_rows (after + 1) (take 100 (drop after ds))) (sym nothing);
-        next = (let none_there : length (feed h s) ≡ 0 = ap length nothing in omega (arith, none_there));
-      }
-
-pub is_later : (after count : ℕ) (next : Option ℕ) → MatchOption next (count ≤ after + 100) (λ n. (n ≡ after + 100) × (n < count)) → IfSome next (λ n. n < 2 ^ 32) → IfSome next (λ n. (after < n) × (n < 2 ^ 32))
-is_later after count None ends fits = tt
-is_later after count (Some n) later fits = (omega (arith, later.0), fits)
-
--- ---- the pages of a feed
-
-module _ (h : History) (s : Bytes) (members : List Member) where
-  -- the marks of the first entries of the feed, so many
-  abbrev pub Marked : ℕ → List Mark → Type 0
-  Marked after marks = marks ≡ map (mark_of (take after (feed h s))) members
-
-  pub none_marked : (marks : List Mark) → marks ≡ map (mark_of []) members → Marked 0 marks
-  none_marked marks is = is
-
-  -- and with a page more
-  pub page_marked : (after : ℕ) (marks later : List Mark) (page : Page) → Marked after marks → IsFeedPage s after h page → later ≡ map (mark_behind page.rows) marks → Marked (after + 100) later
-  page_marked after marks later page before is next =
-      next
-      ∙ ap (λ (rows : List FeedRow). map (mark_behind rows) marks) is.rows
-      ∙ ap (map (mark_behind (feed_rows (after + 1) (take 100 (drop after (feed h s)))))) before
-      ∙ marks_next (take after (feed h s)) (take 100 (drop after (feed h s))) (after + 1) members
-      ∙ ap (λ (ds : List Dispatch). map (mark_of ds) members) (take_page after 100 (feed h s))
-
-  next_is : (after next : ℕ) (o : Option ℕ) → o ≡ Some next → MatchOption o (length (feed h s) ≤ after + 100) (λ n. (n ≡ after + 100) × (n < length (feed h s))) → after + 100 ≡ next
-  next_is after next (Some n) is follows = cc (is, follows.0)
-  next_is after next None is follows = absurd (cc (is))
-
-  pub next_marked : (after next : ℕ) (marks later : List Mark) (page : Page) → Marked after marks → IsFeedPage s after h page → later ≡ map (mark_behind page.rows) marks → page.next ≡ Some next → Marked next later
-  next_marked after next marks later page before is behind goes =
-      subst (λ (k : ℕ). Marked k later) (next_is after next page.next goes is.next) (page_marked after marks later page before is behind)
-
-  ends : (after : ℕ) (o : Option ℕ) → o ≡ None → MatchOption o (length (feed h s) ≤ after + 100) (λ n. (n ≡ after + 100) × (n < length (feed h s))) → length (feed h s) ≤ after + 100
-  ends after None is follows = follows
-  ends after (Some n) is follows = absurd (cc (is))
-
-  pub all_marked : (after : ℕ) (marks later : List Mark) (page : Page) (has : Bool) → Marked after marks → IsFeedPage s after h page → later ≡ map (mark_behind page.rows) marks → page.next ≡ None
-      → has ≡ list_all (λ (mark : Mark). mark.has) later → has ≡ has_all h members s
-  all_marked after marks later page has before is behind last told =
-      told
-      ∙ ap (list_all (λ (mark : Mark). mark.has)) (page_marked after marks later page before is behind)
-      ∙ all_set (take (after + 100) (feed h s)) members
-      ∙ ap (λ (ds : List Dispatch). list_all (has_member ds) members) (take_all (after + 100) (feed h s) (ends after page.next last is.next))
+use Rattle.package_rules.specs.Readers.{has_all, readers}
+use Rattle.package_rules.specs.Finding.{names_of}
 
 -- ---- the subscribers
 

@@ -1,7 +1,6 @@
 pub mod Packages
 pub mod Retries
 pub mod Texts
-pub mod Pages
 pub mod Walking
 pub mod Finding
 pub mod Publishing

@@ -34,7 +34,8 @@ use Rattle.news_types.proofs.Numbering.{NumberTo, standing_numbers, each_feed}
 use Rattle.news_types.proofs.Prefix.{feeds_grow}
 use Rattle.news_types.proofs.Subscribed.{listed_is}
 use Rattle.package_members.specs.declared.member.Member.{Member}
-use Rattle.package_rules.specs.Readers.{is_of, last_of, is_left, has_member, readers}
+use Rattle.story_tables.specs.Holding.{is_of, last_of, is_left}
+use Rattle.package_rules.specs.Readers.{has_member, readers}
 use Rattle.package_rules.specs.Promise.{IsPackaging, next_number, IsDueToReaders, HasEach, MembersComeFirst}
 
 -- ---- names that pass a test

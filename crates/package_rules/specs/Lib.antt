@@ -1,7 +1,6 @@
 pub mod Text
 pub mod Composed
 pub mod Readers
-pub mod Marks
 pub mod Finding
 pub mod Opening
 pub mod Walking

@@ -17,7 +17,8 @@ use Rattle.news_types.specs.Legal.{IsLegal}
 use Rattle.news_types.specs.Members.{Each}
 use Rattle.news_types.specs.Outcome.{Outcome, Answered, Repeat, Denied, request, last_reply}
 use Rattle.package_members.specs.declared.member.Member.{Member}
-use Rattle.package_rules.specs.Readers.{is_of, readers}
+use Rattle.story_tables.specs.Holding.{is_of}
+use Rattle.package_rules.specs.Readers.{readers}
 
 -- the entry flashes a package of these members behind the list: a story, to its readers, of whom there are some
 pub record IsPackaging (g : History) (members : List Member) (story : Story) (e : Entry) : Type 0 where

@@ -4,7 +4,6 @@
 mod association;
 mod laws;
 mod lines;
-mod marks;
 mod objects;
 mod package;
 mod publish;

@@ -30,7 +30,7 @@ either : (z : Bool) (o : Option Pub) → cond z o o ≡ o
 either true o = refl
 either false o = refl
 
-by_number : (ps : List Pub) (n : ℕ) → CountsDown ps → pub_at ps n ≡ publication_at n ps
+pub by_number : (ps : List Pub) (n : ℕ) → CountsDown ps → pub_at ps n ≡ publication_at n ps
 by_number [] n down = either (n == 0) None
 by_number (p ∷ ps) n down = by (p.number == n) (n == 0) refl refl (by_number ps n down.1)
   where

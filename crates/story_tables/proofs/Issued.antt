@@ -32,8 +32,7 @@ use Rattle.news_types.proofs.Releases.{new_releases}
 use Rattle.news_types.proofs.Legal.{rows_hold, RowsHold, none≢some}
 use Rattle.publish_queue.specs.Order.{Differ}
 use Rattle.publish_queue.specs.Many.{names_in}
-use Rattle.publish_queue.specs.declared.queue.Queue.{Queue}
-use Rattle.publish_queue.specs.Keeps.{IsFair, HasRoom}
+use Rattle.publish_queue.specs.Keeps.{IsFair}
 use Rattle.publish_queue.specs.Rows.{is_among}
 use Rattle.publish_queue.specs.Withdrawn.{AreOfItem}
 use Rattle.publish_queue.proofs.Withdrawal.{are_of_item}
@@ -49,7 +48,7 @@ use Rattle.story_tables.specs.declared.feeds.FeedStep.TheVariants as step
 use Rattle.story_tables.specs.declared.stories.Stories.{Stories}
 use Rattle.story_tables.specs.Keeps.{KeepsStories}
 use Rattle.item_commands.specs.Given.{story_given}
-use Rattle.story_tables.specs.Feeds.{FeedsFor, HasFeedRoom, SameDelivery}
+use Rattle.story_tables.specs.Feeds.{FeedsFor, SameDelivery}
 use Rattle.story_tables.specs.Issued.{issues, issue_of, issued_of, left_by_kind, IsTold, given_by_kind, IsStepOf}
 use Rattle.story_tables.specs.Publishing.{IsDueTo}
 use Rattle.story_tables.specs.declared.issue.Issue as declared_issue

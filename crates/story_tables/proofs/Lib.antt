@@ -19,3 +19,7 @@ pub mod Leaving
 pub mod Numbered
 pub mod ByNumber
 pub mod Issued
+pub mod Over
+pub mod LastOf
+pub mod Holding
+pub mod Newest

@@ -8,3 +8,4 @@ pub mod Pages
 pub mod Reports
 pub mod Ingests
 pub mod Issued
+pub mod Holding

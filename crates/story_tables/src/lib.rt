@@ -5,6 +5,7 @@ mod ask;
 mod deliver;
 mod feeds;
 mod follow;
+mod held;
 mod ingest;
 mod issue;
 mod lookup;

@@ -1,4 +1,4 @@
-use Rattle.std.proofs.Common.{List, None, refl, sym, ap, subst, ◌∙◌}
+use Rattle.std.proofs.Common.{List, None, refl, ap, ◌∙◌}
 use Rattle.news_types.specs.declared.words.State.TheVariants.{Scheduled}
 use Rattle.item_table.specs.declared.change.Step.TheVariants as step
 use Rattle.item_table.specs.Rows.{new_row}

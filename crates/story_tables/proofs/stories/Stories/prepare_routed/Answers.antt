@@ -1,5 +1,5 @@
 use Rattle.item_table.specs.Identities.{identity_of}
-use Rattle.std.proofs.Common.{Some, refl, sym, ap, subst, ◌∙◌}
+use Rattle.std.proofs.Common.{Some, refl, ap, ◌∙◌}
 use Rattle.news_types.specs.declared.words.State.TheVariants.{Scheduled}
 use Rattle.item_table.specs.declared.change.Step.TheVariants as step
 use Rattle.item_table.specs.Rows.{new_row}
