@@ -1,4 +1,5 @@
 use Rattle.std.proofs.Common.{refl, subst}
+use Rattle.news_types.specs.Names.{Bytes}
 use Rattle.newsdesk_cli.specs.Archive.{IsArchive}
 use Rattle.newsdesk_cli.proofs.command.do_job.Goals as goal
 
@@ -112,8 +113,10 @@ returns-in-Package-clause-links g c other = refl
 
 pub returns-in-Archive-clause-does : goal.returns-in-Archive-clause-does
 returns-in-Archive-clause-does g c =
-    let query = λ q. IsArchive g.D.Disk.disk g.O.Sink.sink c.in-Archive.page q c.args.log c.ask_archive.result.1 c.args.side c.ask_archive.result.2 c.args.output.now c.ask_archive.new.output c.ask_archive.result.0 in
-    rw c.in-Archive.is (record { input_same = refl; clock_same = refl }, subst query c.as_str.ensures c.ask_archive.ensures)
+    rw c.in-Archive.is (
+      record { input_same = refl; clock_same = refl },
+      subst (λ (q : Bytes). IsArchive g.D.Disk.disk g.O.Sink.sink c.in-Archive.page q c.args.log c.ask_archive.result.1 c.args.side c.ask_archive.result.2 c.args.output.now c.ask_archive.new.output c.ask_archive.result.0) c.as_str.ensures c.ask_archive.ensures,
+    )
 
 pub returns-in-Archive-clause-receives : goal.returns-in-Archive-clause-receives
 returns-in-Archive-clause-receives g c told = rw c.in-Archive.is tt
