@@ -9,7 +9,7 @@ use Rattle.news_types.specs.declared.words.Format.{Format}
 use Rattle.news_types.specs.declared.words.Format.TheVariants.{Ninjs, Text7901}
 use Rattle.news_types.specs.Names.{Bytes, same, is_name}
 use Rattle.command_words.specs.declared.words.Job.{Job}
-use Rattle.command_words.specs.declared.words.Job.TheVariants.{Init, Batch, Ingest, Feed, Queue, Archive, Drain, Receive, Drill, Check, Pack}
+use Rattle.command_words.specs.declared.words.Job.TheVariants.{Init, Batch, Ingest, Import, Package, Feed, Queue, Archive, Contents, Drain, Receive, Drill, Check, Pack}
 use Rattle.command_words.specs.declared.options.Options.{Options}
 use Rattle.command_words.specs.declared.serving.Serving.{Serving}
 
@@ -63,12 +63,19 @@ abbrev pub long_job : Bytes → Bytes → Option Job
 long_job verb word =
     if same verb (codes "init") then option_map Init (parsed word)
     else (if same verb (codes "receive") then option_map Receive (name_of word)
-    else None)
+    else (if same verb (codes "import") then option_map Import (name_of word)
+    else (if same verb (codes "contents") then option_map Contents (number_of word)
+    else None)))
 
 -- to report a subscriber's feed behind its first entries, so many
 abbrev pub feed_of : Option Bytes → Option ℕ → Option Job
 feed_of (Some subscriber) (Some after) = Some (Feed subscriber after)
 feed_of subscriber after = None
+
+-- to publish a package as this caller's request of this number
+abbrev pub package_of : Option Bytes → Option ℕ → Option Job
+package_of (Some caller) (Some number) = Some (Package caller number)
+package_of caller number = None
 
 -- to tell what a query finds behind so many pages; a query is any word
 abbrev pub archive_of : Option ℕ → Bytes → Option Job
@@ -79,9 +86,10 @@ archive_of None query = None
 abbrev pub wide_job : Bytes → Bytes → Bytes → Option Job
 wide_job verb first second =
     if same verb (codes "ingest") then ingest_of (format_of first) (name_of second)
+    else (if same verb (codes "package") then package_of (name_of first) (seed_of second)
     else (if same verb (codes "feed") then feed_of (name_of first) (number_of second)
     else (if same verb (codes "archive") then archive_of (number_of first) second
-    else None))
+    else None)))
 
 -- one of these pairs has this name
 abbrev pub names : List Bytes → Bytes → Bool
@@ -114,8 +122,9 @@ job_by verb (word ∷ []) = long_job verb word
 job_by verb (first ∷ second ∷ []) = wide_job verb first second
 job_by verb words = None
 
--- `init STORE UUID`, `batch STORE`, `ingest STORE FORMAT PROVIDER`, `feed STORE SUBSCRIBER AFTER`, `queue STORE`,
--- `archive STORE PAGE QUERY`, `drain STORE` with pairs of a NAME and an ADDRESS, `receive STORE NAME`, `check STORE`, `pack STORE` and `drill N SEED`; a store and an address are any words but an option
+-- `init STORE UUID`, `batch STORE`, `ingest STORE FORMAT PROVIDER`, `import STORE CALLER`, `package STORE CALLER NUMBER`,
+-- `feed STORE SUBSCRIBER AFTER`, `queue STORE`, `archive STORE PAGE QUERY`, `contents STORE PUBLICATION`, `drain STORE` with pairs of a NAME and an
+-- ADDRESS, `receive STORE NAME`, `check STORE`, `pack STORE` and `drill N SEED`; a store and an address are any words but an option
 abbrev pub job_of : List Bytes → Option Job
 job_of (verb ∷ first ∷ words) =
     if is_option first then None

@@ -16,6 +16,14 @@ const INGEST: &str =
     "newsdesk ingest STORE FORMAT PROVIDER   take in standard input as PROVIDER sent it: FORMAT 7901 is a wire, ninjs one item
 ";
 
+const IMPORT: &str =
+    "newsdesk import STORE CALLER            add the subscribers of standard input, a table of comma-separated values, as requests of CALLER
+";
+
+const PACKAGE: &str =
+    "newsdesk package STORE CALLER NUMBER    publish the package of standard input, one JSON object, to the subscribers who have every member
+";
+
 const FEED: &str =
     "newsdesk feed STORE SUBSCRIBER AFTER    release what waits, and write the entries of a subscriber's feed behind the first AFTER
 ";
@@ -26,6 +34,10 @@ const QUEUE: &str =
 
 const ARCHIVE: &str =
     "newsdesk archive STORE PAGE QUERY       write how many publications a query finds, and a line for each of a page of 100, counted from 0
+";
+
+const CONTENTS: &str =
+    "newsdesk contents STORE PUBLICATION     write what a package holds, level by level, and its associations
 ";
 
 const DRAIN: &str =
@@ -56,8 +68,8 @@ const TAIL: &str = "newsdesk --help                         say this
 newsdesk COMMAND --help                 say the line of one command
 newsdesk --version                      say the version
 
-Options stand directly behind COMMAND: with --wait it waits for a STORE that another program has, with --beside check and archive
-read one that is being served, and `serve --key FILE STORE ..` answers only who sends the first line of FILE as the header X-Key.
+Options stand directly behind COMMAND: with --wait it waits for a STORE that another program has, with --beside check, archive and
+contents read one that is being served, and `serve --key FILE STORE ..` answers only who sends the first line of FILE as the header X-Key.
 
 A line of `batch` is a request, as
   {\"by\":\"admin\",\"number\":1,\"do\":\"add_subscriber\",\"subscriber\":\"alpha\",\"format\":\"ninjs\",\"products\":[\"all\"]}
@@ -67,15 +79,15 @@ or a question, as
 
 Exit status: 0 all was answered, 2 usage, 3 wrong store, 4 read fault, 5 write fault, 6 store fault,
 7 damaged log or side, 8 log or side full, 9 out of memory, 10 link fault, 11 no receipt, 12 input too long, 13 no frame,
-15 another program has the store. A status other than 0 and 5 is written
+14 no head of a table, 15 another program has the store. A status other than 0 and 5 is written
 to the output too, as {\"status\":7} with the place of the damage.
 ";
 
 /// How the program is used, for `--help`: texts, to be written one behind the other. Each command has a line.
-pub fn help_texts() -> [&'static str; 14] {
+pub fn help_texts() -> [&'static str; 17] {
     [
-        HEAD, INIT, BATCH, INGEST, FEED, QUEUE, ARCHIVE, DRAIN, SERVE, RECEIVE, CHECK, PACK, DRILL,
-        TAIL,
+        HEAD, INIT, BATCH, INGEST, IMPORT, PACKAGE, FEED, QUEUE, ARCHIVE, CONTENTS, DRAIN, SERVE,
+        RECEIVE, CHECK, PACK, DRILL, TAIL,
     ]
 }
 
@@ -85,9 +97,12 @@ pub fn command_help(command: &str) -> Option<&'static str> {
         "init" => Some(INIT),
         "batch" => Some(BATCH),
         "ingest" => Some(INGEST),
+        "import" => Some(IMPORT),
+        "package" => Some(PACKAGE),
         "feed" => Some(FEED),
         "queue" => Some(QUEUE),
         "archive" => Some(ARCHIVE),
+        "contents" => Some(CONTENTS),
         "drain" => Some(DRAIN),
         "serve" => Some(SERVE),
         "receive" => Some(RECEIVE),

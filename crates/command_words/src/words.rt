@@ -4,8 +4,8 @@ ghost use Rattle.std.specs.Char.{is_ascii_digit};
 ghost use Rattle.std.specs.List.{list_all};
 ghost use Rattle.std.specs.Option.{option_map};
 ghost use Rattle.uuid.specs.Text.{parsed};
-ghost use Rattle.command_words.specs.declared.words.Job.TheVariants.{Init, Receive};
-ghost use Rattle.command_words.specs.Words.{archive_of, drill_of, feed_of, format_of, ingest_of, job_of, name_of, number_of, seed_of};
+ghost use Rattle.command_words.specs.declared.words.Job.TheVariants.{Contents, Import, Init, Receive};
+ghost use Rattle.command_words.specs.Words.{archive_of, drill_of, feed_of, format_of, ingest_of, job_of, name_of, number_of, package_of, seed_of};
 ghost use Rattle.command_words.specs.Words as spec;
 
 use crate::word::Word;
@@ -24,12 +24,18 @@ pub enum Job<'a> {
     Batch,
     /// To take in what the input has, in this format, from this provider.
     Ingest { format: Format, provider: Name },
+    /// To add the subscribers of the table that the input is, as requests of this caller.
+    Import(Name),
+    /// To publish the package that the input is, as this caller's request of this number.
+    Package { caller: Name, number: u64 },
     /// To release what waits, and report this subscriber's feed behind its first entries, so many.
     Feed { subscriber: Name, after: u32 },
     /// To release what waits, and report all feeds.
     Queue,
     /// To tell which publications the query finds, behind so many pages.
     Archive { page: u32, query: Word<'a> },
+    /// To tell what the publication of this number holds.
+    Contents(u32),
     /// To push what is due over the links to receivers.
     Drain,
     /// To take the frames of the input as the receiver of this name.
@@ -162,6 +168,12 @@ fn long_job<'a>(verb: &str, word: &str) -> Option<Job<'a>>
     if verb == "receive" {
         return receive_job(word);
     }
+    if verb == "import" {
+        return import_job(word);
+    }
+    if verb == "contents" {
+        return contents_job(word);
+    }
     None
 }
 
@@ -182,12 +194,27 @@ fn receive_job<'a>(name: &str) -> Option<Job<'a>>
     Some(Job::Receive(Name::read(name)?))
 }
 
+/// To add the subscribers of a table as requests of this caller, if the word is a name.
+fn import_job<'a>(caller: &str) -> Option<Job<'a>>
+    ensures { result ≡ option_map Import (name_of caller.now) }
+{
+    Some(Job::Import(Name::read(caller)?))
+}
+
+/// To tell what the publication of this number holds, if the word is one.
+fn contents_job<'a>(publication: &str) -> Option<Job<'a>>
+    ensures { result ≡ option_map Contents (number_of publication.now) }
+{
+    Some(Job::Contents(read_number(publication)?))
+}
+
 /// What this word, a store and two words more ask for.
 fn wide_job<'a>(verb: &str, first: &str, second: &'a Text) -> Option<Job<'a>>
     ensures { result ≡ spec.wide_job verb.now first.now second.now }
 {
     match verb {
         "ingest" => ingest_job(first, second.as_str()),
+        "package" => package_job(first, second.as_str()),
         "feed" => feed_job(first, second.as_str()),
         "archive" => archive_job(first, second),
         _ => None,
@@ -211,6 +238,16 @@ fn feed_job<'a>(subscriber: &str, after: &str) -> Option<Job<'a>>
     Some(Job::Feed {
         subscriber: Name::read(subscriber)?,
         after: read_number(after)?,
+    })
+}
+
+/// To publish a package as this caller's request of this number, if they are a name and a number.
+fn package_job<'a>(caller: &str, number: &str) -> Option<Job<'a>>
+    ensures { result ≡ package_of (name_of caller.now) (seed_of number.now) }
+{
+    Some(Job::Package {
+        caller: Name::read(caller)?,
+        number: read_seed(number)?,
     })
 }
 

@@ -29,13 +29,17 @@ pub enum Keeping {
 pub fn keeping_of(job: Job<'_>) -> Keeping {
     match job {
         Job::Drill { .. } => Keeping::Nothing,
-        Job::Check | Job::Archive { .. } => Keeping::Reads,
+        Job::Check | Job::Archive { .. } | Job::Contents(_) => Keeping::Reads,
         Job::Pack => Keeping::Packs,
         Job::Init(_) => Keeping::Makes,
         Job::Receive(_) => Keeping::MakesLog,
-        Job::Batch | Job::Ingest { .. } | Job::Feed { .. } | Job::Queue | Job::Drain => {
-            Keeping::Writes
-        }
+        Job::Batch
+        | Job::Ingest { .. }
+        | Job::Import(_)
+        | Job::Package { .. }
+        | Job::Feed { .. }
+        | Job::Queue
+        | Job::Drain => Keeping::Writes,
     }
 }
 

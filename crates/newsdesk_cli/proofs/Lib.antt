@@ -3,6 +3,9 @@ pub mod Commands
 pub mod Packing
 pub mod FilesLeft
 pub mod Statuses
+pub mod Still
+pub mod Importing
+pub mod Packaging
 pub mod Serving
 pub mod Reporting
 pub mod Draining

@@ -24,6 +24,7 @@ use Rattle.news_pair.specs.declared.pack_fault.PackFault.{PackFault}
 use Rattle.news_pair.specs.declared.pack_fault.PackFault.TheVariants as fault
 use Rattle.news_pair.specs.PackFaults.{IsDamage, FaultCounts}
 use Rattle.news_room.specs.declared.room.Room.{Room}
+use Rattle.package_rules.specs.Report.{contents_report}
 use Rattle.publish_workers.specs.LinkDrains.{end_of_all}
 use Rattle.room_reports.specs.Reports.{feed_report_at, queue_report_at}
 use Rattle.room_runs.specs.Desk.{Hand, line_hand}
@@ -41,13 +42,17 @@ use Rattle.store_files.specs.declared.trouble.Trouble.TheVariants as trouble
 use Rattle.store_files.proofs.Serving.{served}
 use Rattle.newsdesk_cli.specs.Archive.{IsAsked}
 use Rattle.newsdesk_cli.specs.Command.{check_line, IsServed, Serves, HasAnswered, IsReportOf, IsDrain, Does}
+use Rattle.newsdesk_cli.specs.Imports.{IsImportOf}
 use Rattle.newsdesk_cli.specs.Opened.{NotOpened}
+use Rattle.newsdesk_cli.specs.Packages.{IsPackageOf}
 use Rattle.newsdesk_cli.specs.Telling.{IsTold, IsAnswered}
 use Rattle.newsdesk_cli.specs.Packing.{packed_line}
 use Rattle.command_words.specs.declared.words.Job.{Job}
-use Rattle.command_words.specs.declared.words.Job.TheVariants.{Init, Batch, Ingest, Feed, Queue, Archive, Drain, Receive, Drill, Check, Pack}
+use Rattle.command_words.specs.declared.words.Job.TheVariants.{Init, Batch, Ingest, Import, Package, Feed, Queue, Archive, Contents, Drain, Receive, Drill, Check, Pack}
 use Rattle.newsdesk_cli.proofs.Commands.{rose_along}
 use Rattle.newsdesk_cli.proofs.Draining.{drain_else, drain_failed}
+use Rattle.newsdesk_cli.proofs.Importing.{import_served}
+use Rattle.newsdesk_cli.proofs.Packaging.{package_served}
 use Rattle.newsdesk_cli.proofs.Reporting.{reported_else}
 use Rattle.newsdesk_cli.proofs.Statuses.{others}
 
@@ -128,6 +133,14 @@ module _ {D O S C : Type 0} (disk : DiskMeaning D) (clock : ClockMeaning C) (sou
         failed = λ is. rose_along disk log side log' side' a.went.room.keeper a.went.after.keeper a.went.opened.calm a.went.same a.went.same_side (a.reported.store_faults.failed is);
       }
 
+  taken : (caller : Bytes) → IsImportOf disk clock source sink log log' side side' i i' o o' c c' status caller → IsServed Before Now status
+  taken caller (inl not) = not_opened not.why
+  taken caller (inr a) = import_served disk clock source sink caller log side a.went.room a.went.after c c' i i' o o' status a.went.opened log' side' a.went.same a.went.same_side a.imported
+
+  packaged : (caller : Bytes) (number : ℕ) → IsPackageOf disk clock source sink log log' side side' i i' o o' c c' status caller number → IsServed Before Now status
+  packaged caller number (inl not) = not_opened not.why
+  packaged caller number (inr a) = package_served disk clock source sink caller number log side a.went.room a.went.after c c' i i' o o' status a.went.opened log' side' a.went.same a.went.same_side a.published
+
   drained : {L : Type 0} (link : LinkMeaning L) (l l' : List L) → IsDrain disk clock sink log log' side side' o o' c c' status link l l' → IsServed Before Now status
   drained link l l' (inl not) = not_opened not.why.why
   drained link l l' (inr a) = record {
@@ -153,6 +166,9 @@ module _ {D O S C : Type 0} (disk : DiskMeaning D) (clock : ClockMeaning C) (sou
   serves link l l' (Some (Drill stories seed)) did = tt
   serves link l l' (Some Check) did = elim did.1 [ inl not ↦ not_opened not | inr done ↦ answer_served sink o o' Before Now status (check_line done.opened.history) done.told ]
   serves link l l' (Some (Archive page query)) did = elim did.1 [ inl not ↦ not_opened not | inr done ↦ asked_served sink o o' Before Now status done.opened.history page query done.told ]
+  serves link l l' (Some (Contents publication)) did = elim did.1 [ inl not ↦ not_opened not | inr done ↦ answer_served sink o o' Before Now status (contents_report done.opened.history done.opened.store publication) done.told ]
+  serves link l l' (Some (Import caller)) did = taken caller did
+  serves link l l' (Some (Package caller number)) did = packaged caller number did
   serves link l l' (Some Pack) did = elim did.1 [
     | inl not ↦ not_opened not
     | inr either ↦ elim either [

@@ -1,8 +1,48 @@
--- The statuses of a command that are never told of a store that holds a list.
-use Rattle.std.proofs.Common.{◌≡◌, ℕ, sym, ◌∙◌}
+-- The statuses of a command: those that are never told of a store that holds a list, and those that come where nothing failed.
+use Rattle.std.proofs.Common.{◌≡◌, inl, inr, ℕ, ◌+◌, ◌≤◌, ◌<◌, [], length, length-append, sym, ◌∙◌, ap, arith}
+use Rattle.std.specs.Prelude.{Err}
+use Rattle.news_types.specs.Names.{Bytes}
 use Rattle.news_io.specs.Faults.{Rose}
+use Rattle.news_io.specs.Sink.{SinkMeaning}
+use Rattle.news_io.specs.Source.{SourceMeaning}
+use Rattle.line_run.specs.Status.{IsComplete, status_by}
+use Rattle.line_run.specs.declared.ending.Ending.{Ending}
+use Rattle.line_run.specs.declared.ending.Ending.TheVariants as end
+use Rattle.wire_run.specs.Reading.{IsReadThrough}
+use Rattle.run_status.specs.Status.{number_of}
+use Rattle.whole_runs.specs.Output.{IsTextTold}
 use Rattle.newsdesk_cli.specs.Command.{IsServed}
 
 -- any other number
 pub others : (before now n status : ℕ) → (n ≡ 3 → ⊥) → (n ≡ 7 → ⊥) → (n ≡ 6 → Rose before now) → status ≡ n → IsServed before now status
 others before now n status own whole failed is = record { own = λ s. own (sym is ∙ s); whole = λ s. whole (sym is ∙ s); failed = λ s. failed (sym is ∙ s) }
+
+-- a text was told at the end
+module _ {O : Type 0} (sink : SinkMeaning O) (text : Bytes) (o o' : O) (status : ℕ) where
+  pub text_served : (before now : ℕ) → IsTextTold sink text o o' status → IsServed before now status
+  text_served before now (inl done) = others before now 0 status (λ s. absurd (omega (arith, s))) (λ s. absurd (omega (arith, s))) (λ s. absurd (omega (arith, s))) done.0
+  text_served before now (inr (inl cut)) = others before now 5 status (λ s. absurd (omega (arith, s))) (λ s. absurd (omega (arith, s))) (λ s. absurd (omega (arith, s))) cut.0
+  text_served before now (inr (inr stopped)) = others before now 9 status (λ s. absurd (omega (arith, s))) (λ s. absurd (omega (arith, s))) (λ s. absurd (omega (arith, s))) stopped.status_is
+
+  pub text_complete : (Rose (sink.faults o) (sink.faults o') → ⊥) → IsTextTold sink text o o' status → IsComplete status
+  text_complete calm (inl done) = inl done.0
+  text_complete calm (inr (inl cut)) = absurd (calm cut.1.rose)
+  text_complete calm (inr (inr stopped)) = inr (inr stopped.status_is)
+
+-- an input was not read to its end
+module _ {S : Type 0} (source : SourceMeaning S) (most : ℕ) (i i' : S) (status : ℕ) where
+  pub unread_served : (before now : ℕ) (why : Ending) → IsReadThrough source most i i' [] (Err why) → status ≡ number_of (status_by why) → IsServed before now status
+  unread_served before now end.Read part is = others before now 4 status (λ s. absurd (omega (arith, s))) (λ s. absurd (omega (arith, s))) (λ s. absurd (omega (arith, s))) is
+  unread_served before now end.TooLong part is = others before now 12 status (λ s. absurd (omega (arith, s))) (λ s. absurd (omega (arith, s))) (λ s. absurd (omega (arith, s))) is
+  unread_served before now end.Memory part is = others before now 9 status (λ s. absurd (omega (arith, s))) (λ s. absurd (omega (arith, s))) (λ s. absurd (omega (arith, s))) is
+  unread_served before now end.Write part is = absurd part
+  unread_served before now end.Store part is = absurd part
+  unread_served before now end.Full part is = absurd part
+
+  pub unread_complete : source.tells i → length (source.ahead i) ≤ most → (Rose (source.faults i) (source.faults i') → ⊥) → (why : Ending) → IsReadThrough source most i i' [] (Err why) → status ≡ number_of (status_by why) → IsComplete status
+  unread_complete given few calm end.Read part is = absurd (calm part.2)
+  unread_complete given few calm end.TooLong part is = absurd (omega (arith, few, part.1, ap length (part.0.was_read.input given), length-append part.0.read part.0.more))
+  unread_complete given few calm end.Memory part is = inr (inr is)
+  unread_complete given few calm end.Write part is = absurd part
+  unread_complete given few calm end.Store part is = absurd part
+  unread_complete given few calm end.Full part is = absurd part

@@ -33,6 +33,8 @@ use Rattle.room_runs.specs.Wires.{IngestAnswered}
 use Rattle.newsdesk_cli.specs.Telling.{IsStopped, IsTold, IsAnswered, IsRefusedUse}
 use Rattle.newsdesk_cli.specs.Opened.{NotOpened, IsLook, HasGoneOn, NotBegun}
 use Rattle.newsdesk_cli.specs.Archive.{IsArchive}
+use Rattle.newsdesk_cli.specs.Imports.{IsImportOf}
+use Rattle.newsdesk_cli.specs.Packages.{IsPackageOf, IsContents}
 use Rattle.room_runs.specs.Lines.{no_frames, LONGEST_INPUT}
 use Rattle.room_reports.specs.Reports.{feed_report_at, queue_report_at, IsReport}
 use Rattle.feed_drill.specs.Drill.{Drills}
@@ -49,7 +51,7 @@ use Rattle.run_status.specs.declared.status.Status.{Status}
 use Rattle.store_files.specs.Trouble.{trouble_of_pack}
 use Rattle.store_files.specs.declared.trouble.Trouble.TheVariants as trouble
 use Rattle.command_words.specs.declared.words.Job.{Job}
-use Rattle.command_words.specs.declared.words.Job.TheVariants.{Init, Batch, Ingest, Feed, Queue, Archive, Drain, Receive, Drill, Check, Pack}
+use Rattle.command_words.specs.declared.words.Job.TheVariants.{Init, Batch, Ingest, Import, Package, Feed, Queue, Archive, Contents, Drain, Receive, Drill, Check, Pack}
 
 -- how many entries and publications a list has, as a line
 abbrev pub check_line : History → List ℕ
@@ -208,6 +210,7 @@ module _ {D O S C L : Type 0} (disk : DiskMeaning D) (clock : ClockMeaning C) (s
   Does (Some (Init store)) = Unread × IsInit disk sink store log log' side side' o o' status
   Does (Some Check) = Unread × IsCheck disk sink log log' side side' o o' status
   Does (Some (Archive page query)) = Unread × IsArchive disk sink page query log log' side side' o o' status
+  Does (Some (Contents publication)) = Unread × IsContents disk sink publication log log' side side' o o' status
   Does (Some Pack) = Unread × IsPack disk sink log log' side side' o o' status
   Does (Some Batch) = IsBatch disk clock source sink log log' side side' i i' o o' c c' status
   Does (Some (Feed subscriber after)) = (i' ≡ i) × IsReportOf disk clock sink log log' side side' o o' c c' status (feed_report_at subscriber after)
@@ -216,6 +219,8 @@ module _ {D O S C L : Type 0} (disk : DiskMeaning D) (clock : ClockMeaning C) (s
   Does (Some (Receive name)) = (c' ≡ c) × (side' ≡ side) × IsReceive disk source sink name log log' i i' o o' status
   Does (Some (Drill stories seed)) = (i' ≡ i) × (log' ≡ log) × (side' ≡ side) × IsDrilled sink clock stories seed o o' c c' status
   Does (Some (Ingest format provider)) = IsIngest disk clock source sink log log' side side' i i' o o' c c' status format provider
+  Does (Some (Import caller)) = IsImportOf disk clock source sink log log' side side' i i' o o' c c' status caller
+  Does (Some (Package caller number)) = IsPackageOf disk clock source sink log log' side side' i i' o o' c c' status caller number
 
 -- the files are not refused for their bytes, and a failure is told only where the count of the disks rose
 pub record IsServed (before now status : ℕ) : Type 0 where
@@ -229,9 +234,12 @@ Serves before now None status = Unit {0}
 Serves before now (Some (Init store)) status = Unit {0}
 Serves before now (Some Batch) status = IsServed before now status
 Serves before now (Some (Ingest format provider)) status = IsServed before now status
+Serves before now (Some (Import caller)) status = IsServed before now status
+Serves before now (Some (Package caller number)) status = IsServed before now status
 Serves before now (Some (Feed subscriber after)) status = IsServed before now status
 Serves before now (Some Queue) status = IsServed before now status
 Serves before now (Some (Archive page query)) status = IsServed before now status
+Serves before now (Some (Contents publication)) status = IsServed before now status
 Serves before now (Some Drain) status = IsServed before now status
 Serves before now (Some (Receive name)) status = Unit {0}
 Serves before now (Some (Drill stories seed)) status = Unit {0}

@@ -15,7 +15,10 @@ ghost use Rattle.command_words.specs.declared.words.Job.TheVariants.{Drain};
 
 use crate::archive::ask_archive;
 use crate::check::check_line;
+use crate::contents::list_contents;
+use crate::import::take_table;
 use crate::pack::tell_packed;
+use crate::package::take_package;
 use crate::telling::{tell_trouble, tell_usage};
 use command_words::{Job, read_words};
 use feed_drill::run_drill;
@@ -80,11 +83,16 @@ fn do_job<S: Source, O: Sink, D: Disk, C: Clock, L: Link>(
         Job::Ingest { format, provider } => {
             ingest(alloc, input, output, log, side, clock, format, provider)
         }
+        Job::Import(caller) => take_table(alloc, input, output, log, side, clock, caller),
+        Job::Package { caller, number } => {
+            take_package(alloc, input, output, log, side, clock, caller, number)
+        }
         Job::Feed { subscriber, after } => feed(alloc, output, log, side, clock, subscriber, after),
         Job::Queue => queue(alloc, output, log, side, clock),
         Job::Archive { page, query } => {
             ask_archive(alloc, output, log, side, page, query.as_str())
         }
+        Job::Contents(publication) => list_contents(alloc, output, log, side, publication),
         Job::Drain => drain(alloc, output, log, side, clock, links),
         Job::Receive(name) => receive(alloc, input, output, log, side, name),
         Job::Drill { stories, seed } => drill(alloc, output, log, side, clock, stories, seed),

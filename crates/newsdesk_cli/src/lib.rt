@@ -4,7 +4,10 @@
 mod archive;
 mod check;
 mod command;
+mod contents;
+mod import;
 mod pack;
+mod package;
 mod telling;
 
 pub use command::run;

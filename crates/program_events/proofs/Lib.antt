@@ -6,6 +6,9 @@ pub mod Begun
 pub mod Leading
 pub mod Happening
 pub mod Reports
+pub mod Stepping
+pub mod Packages
+pub mod Imports
 pub mod Pushing
 pub mod Doubting
 pub mod Draining

@@ -61,24 +61,24 @@ pub record Fares (h : History) (next : Option Entry) (fate : Fate) (more : List 
   pub list : list_after h next fate ≡ entries kept ++ h
   pub is : followed_by more h ≡ entries kept ++ h
 
-all_fares : (h : History) (next : Option Entry) (more : List Entry) → more ≡ entries next → Fares h next IsKept more
+pub all_fares : (h : History) (next : Option Entry) (more : List Entry) → more ≡ entries next → Fares h next IsKept more
 all_fares h None more is = record { kept = None; list = refl; is = ap (λ es. followed_by es h) is }
 all_fares h (Some e) more is = record { kept = Some e; list = refl; is = ap (λ es. followed_by es h) is }
 
 -- the one entry that should follow was not kept
-one_next : (next : Option Entry) (more : List Entry) (e : Entry) (rest : List Entry) → entries next ≡ more ++ e ∷ rest → (more ≡ []) × (next ≡ Some e)
+pub one_next : (next : Option Entry) (more : List Entry) (e : Entry) (rest : List Entry) → entries next ≡ more ++ e ∷ rest → (more ≡ []) × (next ≡ Some e)
 one_next None [] e rest is = absurd cc
 one_next None (x ∷ more) e rest is = absurd cc
 one_next (Some x) [] e rest is = let same : x ≡ e = cc in (refl, ap Some same)
 one_next (Some x) (y ∷ []) e rest is = absurd cc
 one_next (Some x) (y ∷ z ∷ more) e rest is = absurd cc
 
-failed_fares : (h : History) (next : Option Entry) (more : List Entry) (e : Entry) (rest : List Entry) → entries next ≡ more ++ e ∷ rest → Fares h next IsFailed more
+pub failed_fares : (h : History) (next : Option Entry) (more : List Entry) (e : Entry) (rest : List Entry) → entries next ≡ more ++ e ∷ rest → Fares h next IsFailed more
 failed_fares h next more e rest is =
     let one = one_next next more e rest is in
     record { kept = None; list = ap (λ o. list_after h o IsFailed) one.1; is = ap (λ es. followed_by es h) one.0 }
 
-full_fares : (h : History) (next : Option Entry) (more : List Entry) (e : Entry) (rest : List Entry) → entries next ≡ more ++ e ∷ rest → Fares h next IsFull more
+pub full_fares : (h : History) (next : Option Entry) (more : List Entry) (e : Entry) (rest : List Entry) → entries next ≡ more ++ e ∷ rest → Fares h next IsFull more
 full_fares h next more e rest is =
     let one = one_next next more e rest is in
     record { kept = None; list = ap (λ o. list_after h o IsFull) one.1; is = ap (λ es. followed_by es h) one.0 }
@@ -92,7 +92,7 @@ tick_fares n b now more (Ticked.Full size count) step = full_fares b.list (follo
 
 -- ---- the entry in doubt
 
-still_none : (D : Bytes → Type 0) (more : List Entry) (payload : Bytes) → still D more payload → D payload
+pub still_none : (D : Bytes → Type 0) (more : List Entry) (payload : Bytes) → still D more payload → D payload
 still_none D [] payload d = d
 still_none D (e ∷ es) payload d = absurd d
 

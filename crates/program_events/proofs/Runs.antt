@@ -30,7 +30,7 @@ use Rattle.room_runs.specs.Batch.{InputAnswered}
 use Rattle.room_runs.specs.Wires.{wire_hand, of_incoming, IngestAnswered}
 use Rattle.newsdesk_cli.specs.Command.{HasAnswered, Does}
 use Rattle.command_words.specs.declared.words.Job.{Job}
-use Rattle.command_words.specs.declared.words.Job.TheVariants.{Batch, Ingest, Feed, Queue, Drain}
+use Rattle.command_words.specs.declared.words.Job.TheVariants.{Batch, Ingest, Import, Package, Feed, Queue, Drain}
 use Rattle.program_events.specs.Events.{Input, line_input}
 use Rattle.program_events.specs.Stories.{wire_input, item_input}
 use Rattle.program_events.specs.Runs.{Reads, RunHappened, AnswersAreEvents, AreEvents, RunsAreEvents}
@@ -39,6 +39,8 @@ use Rattle.program_events.proofs.Lines.{line_means}
 use Rattle.program_events.proofs.Stories.{wire_means, item_means}
 use Rattle.program_events.proofs.Reports.{report_is_events}
 use Rattle.program_events.proofs.Draining.{drain_is_events}
+use Rattle.program_events.proofs.Imports.{import_happened}
+use Rattle.program_events.proofs.Packages.{package_happened}
 use Rattle.program_events.proofs.Happening.{list_of_run, run_stands, run_happens}
 
 module _ {D C S O A X : Type 0} (disk : DiskMeaning D) (clock : ClockMeaning C) (source : SourceMeaning S) (sink : SinkMeaning O) (hand : A → Hand (Pair D) C) (M : ℕ → Meaning Entry X) (input : Input X) (means : Means (M 65) input)
@@ -115,6 +117,8 @@ module _ {D S O C : Type 0} (disk : DiskMeaning D) (clock : ClockMeaning C) (sou
     are_events (Some Batch) (inr did) = batch_events did
     are_events (Some (Ingest Text7901 provider)) (inr did) = wire_events provider did
     are_events (Some (Ingest Ninjs provider)) (inr did) = item_events provider did
+    are_events (Some (Import caller)) (inr did) = λ tells tells' write w same. import_happened disk clock source sink caller log log' side side' c c' i i' o o' status did.went tells tells' write w same did.imported
+    are_events (Some (Package caller number)) (inr did) = λ tells tells' write w same. package_happened disk clock source sink caller number log log' side side' c c' i i' o o' status did.went tells tells' write w same did.published
     are_events (Some (Feed subscriber after)) did = report_is_events disk clock sink (query.Feed subscriber after) (feed_report_at subscriber after) log log' side side' o o' c c' status did.1
     are_events (Some Queue) did = report_is_events disk clock sink query.Queue queue_report_at log log' side side' o o' c c' status did.1
     are_events (Some Drain) did = drain_is_events disk clock sink log log' side side' o o' c c' status link l l' did.1

@@ -29,10 +29,14 @@ use Rattle.store_files.specs.Files.{Files, OpenTo, MayLeave, LeftSince}
 use Rattle.world_laws.specs.Headline.{Headline}
 use Rattle.world_laws.specs.World.{World, Event, Reopens, happens, after}
 use Rattle.newsdesk_cli.specs.Archive.{IsArchive}
+use Rattle.newsdesk_cli.specs.Imports.{HasTakenTable, IsImportOf}
+use Rattle.newsdesk_cli.specs.Packages.{IsContents, HasTakenPackage, IsPackageOf}
 use Rattle.newsdesk_cli.specs.Command.{HasAnswered, HasReported, IsBatch, IsIngest, IsReportOf, HasDrained, IsDrain, IsCheck, IsPack, IsInit, IsMade}
 use Rattle.program_events.specs.Events.{Input, line_input}
 use Rattle.program_events.specs.Stories.{wire_input, item_input}
 use Rattle.program_events.specs.Leads.{IsBegunOf}
+use Rattle.program_events.specs.Imports.{ImportRunHappened}
+use Rattle.program_events.specs.Packages.{PackageRunHappened}
 use Rattle.program_events.specs.Runs.{RunHappened, ReportHappened}
 use Rattle.program_events.specs.Drains.{DrainHappened}
 
@@ -57,11 +61,14 @@ module _ {D S O C L : Type 0} (disk : DiskMeaning D) (clock : ClockMeaning C) (s
     Init : (owner : Bytes) → IsInit disk sink owner log log' side side' o o' status → Did log log' side side' i i' o o' c c' l l' status
     Batch : IsBatch disk clock source sink log log' side side' i i' o o' c c' status → Did log log' side side' i i' o o' c c' l l' status
     Ingest : (format : Format) (provider : Bytes) → IsIngest disk clock source sink log log' side side' i i' o o' c c' status format provider → Did log log' side side' i i' o o' c c' l l' status
+    Import : (caller : Bytes) → IsImportOf disk clock source sink log log' side side' i i' o o' c c' status caller → Did log log' side side' i i' o o' c c' l l' status
+    Package : (caller : Bytes) (number : ℕ) → IsPackageOf disk clock source sink log log' side side' i i' o o' c c' status caller number → Did log log' side side' i i' o o' c c' l l' status
     Feed : (subscriber : Bytes) (after : ℕ) → IsReportOf disk clock sink log log' side side' o o' c c' status (feed_report_at subscriber after) → Did log log' side side' i i' o o' c c' l l' status
     Queue : IsReportOf disk clock sink log log' side side' o o' c c' status queue_report_at → Did log log' side side' i i' o o' c c' l l' status
     Drain : IsDrain disk clock sink log log' side side' o o' c c' status link l l' → Did log log' side side' i i' o o' c c' l l' status
     Check : IsCheck disk sink log log' side side' o o' status → Did log log' side side' i i' o o' c c' l l' status
     Archive : (page : ℕ) (query : Bytes) → IsArchive disk sink page query log log' side side' o o' status → Did log log' side side' i i' o o' c c' l l' status
+    Contents : (publication : ℕ) → IsContents disk sink publication log log' side side' o o' status → Did log log' side side' i i' o o' c c' l l' status
     Pack : IsPack disk sink log log' side side' o o' status → Did log log' side side' i i' o o' c c' l l' status
 
   -- a run on files that tell what they hold; and what a crash left of them, where one came within the run or behind it
@@ -99,11 +106,14 @@ module _ {D S O C L : Type 0} (disk : DiskMeaning D) (clock : ClockMeaning C) (s
   LeftByRun r (Init owner did) files = LeftSince disk r.log' r.side' (disk.moment r.log) files
   LeftByRun r (Batch did) files = LeftSince disk r.log' r.side' (disk.moment r.log) files
   LeftByRun r (Ingest format provider did) files = LeftSince disk r.log' r.side' (disk.moment r.log) files
+  LeftByRun r (Import caller did) files = LeftSince disk r.log' r.side' (disk.moment r.log) files
+  LeftByRun r (Package caller number did) files = LeftSince disk r.log' r.side' (disk.moment r.log) files
   LeftByRun r (Feed subscriber after did) files = LeftSince disk r.log' r.side' (disk.moment r.log) files
   LeftByRun r (Queue did) files = LeftSince disk r.log' r.side' (disk.moment r.log) files
   LeftByRun r (Drain did) files = LeftSince disk r.log' r.side' (disk.moment r.log) files
   LeftByRun r (Check did) files = LeftSince disk r.log' r.side' (disk.moment r.log) files
   LeftByRun r (Archive page query did) files = LeftSince disk r.log' r.side' (disk.moment r.log) files
+  LeftByRun r (Contents publication did) files = LeftSince disk r.log' r.side' (disk.moment r.log) files
   LeftByRun r (Pack did) files = LeftByPacking r did files
 
   abbrev pub MayCrash : Run → Option Files → Type 0
@@ -149,6 +159,16 @@ module _ {D S O C L : Type 0} (disk : DiskMeaning D) (clock : ClockMeaning C) (s
   Answers input r did write w events =
       RunHappened input clock source sink write w r.input r.input' r.output r.output' r.clock_was r.clock_is r.status (did.went.files r.tells r.tells_side).list (in_doubt (pair_of disk) did.went.after) events
 
+  -- a table was imported as in the world
+  abbrev pub Takes : (caller : Bytes) (r : Run) → HasTakenTable disk clock source sink r.log r.log' r.side r.side' r.input r.input' r.output r.output' r.clock_was r.clock_is r.status caller → Writer → World → List Event → Type 0
+  Takes caller r did write w events =
+      ImportRunHappened (pair_of disk) clock source sink caller did.went.room did.went.after r.clock_was r.clock_is r.input r.input' r.output r.output' r.status write w (did.went.files r.tells r.tells_side).list (in_doubt (pair_of disk) did.went.after) events did.imported
+
+  -- a package was published as in the world
+  abbrev pub Publishes : (caller : Bytes) (number : ℕ) (r : Run) → HasTakenPackage disk clock source sink r.log r.log' r.side r.side' r.input r.input' r.output r.output' r.clock_was r.clock_is r.status caller number → Writer → World → List Event → Type 0
+  Publishes caller number r did write w events =
+      PackageRunHappened (pair_of disk) clock source sink caller number did.went.room did.went.after r.clock_was r.clock_is r.input r.input' r.output r.output' r.status write w (did.went.files r.tells r.tells_side).list (in_doubt (pair_of disk) did.went.after) events did.published
+
   -- a question was answered by its report on the list of the world
   abbrev pub Reports : Query → (report : History → Bytes) → (r : Run) → HasReported disk clock sink r.log r.log' r.side r.side' r.output r.output' r.clock_was r.clock_is r.status report → Writer → World → List Event → Type 0
   Reports question report r did write w events =
@@ -167,6 +187,10 @@ module _ {D S O C L : Type 0} (disk : DiskMeaning D) (clock : ClockMeaning C) (s
   AreOfRun write before r (Ingest Text7901 provider (inl refused)) events = events ≡ before
   AreOfRun write before r (Ingest Ninjs provider (inr did)) events = AreOfGoing (Answers (item_input provider) r did) r write before events
   AreOfRun write before r (Ingest Ninjs provider (inl refused)) events = events ≡ before
+  AreOfRun write before r (Import caller (inr did)) events = AreOfGoing (Takes caller r did) r write before events
+  AreOfRun write before r (Import caller (inl refused)) events = events ≡ before
+  AreOfRun write before r (Package caller number (inr did)) events = AreOfGoing (Publishes caller number r did) r write before events
+  AreOfRun write before r (Package caller number (inl refused)) events = events ≡ before
   AreOfRun write before r (Feed subscriber after (inr did)) events = AreOfGoing (Reports (query.Feed subscriber after) (feed_report_at subscriber after) r did) r write before events
   AreOfRun write before r (Feed subscriber after (inl refused)) events = events ≡ before
   AreOfRun write before r (Queue (inr did)) events = AreOfGoing (Reports query.Queue queue_report_at r did) r write before events
@@ -176,6 +200,7 @@ module _ {D S O C L : Type 0} (disk : DiskMeaning D) (clock : ClockMeaning C) (s
   AreOfRun write before r (Init owner did) events = events ≡ before
   AreOfRun write before r (Check did) events = events ≡ before
   AreOfRun write before r (Archive page query did) events = events ≡ before
+  AreOfRun write before r (Contents publication did) events = events ≡ before
   AreOfRun write before r (Pack did) events = events ≡ before
 
   -- events of runs, one behind the other

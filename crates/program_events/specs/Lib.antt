@@ -3,5 +3,7 @@ pub mod Turns
 pub mod Stories
 pub mod Leads
 pub mod Drains
+pub mod Packages
+pub mod Imports
 pub mod Runs
 pub mod Chains

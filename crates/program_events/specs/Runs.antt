@@ -34,8 +34,10 @@ use Rattle.newsdesk_cli.specs.Opened.{HasGoneOn}
 use Rattle.room_reports.specs.Reports.{feed_report_at, queue_report_at, IsWrittenOut, IsStopped}
 use Rattle.room_runs.specs.Lines.{LONGEST_INPUT}
 use Rattle.command_words.specs.declared.words.Job.{Job}
-use Rattle.command_words.specs.declared.words.Job.TheVariants.{Batch, Ingest, Feed, Queue, Drain}
+use Rattle.command_words.specs.declared.words.Job.TheVariants.{Batch, Ingest, Import, Package, Feed, Queue, Drain}
 use Rattle.program_events.specs.Drains.{DrainHappened}
+use Rattle.program_events.specs.Imports.{ImportRunHappened}
+use Rattle.program_events.specs.Packages.{PackageRunHappened}
 use Rattle.program_events.specs.Leads.{LeadsOn}
 use Rattle.program_events.specs.Stories.{wire_input, item_input}
 use Rattle.program_events.specs.Events.{Input, line_input, turn_events, turn_readings, world_texts, AreBegun, question_events}
@@ -142,6 +144,9 @@ module _ {D S O C : Type 0} (disk : DiskMeaning D) (clock : ClockMeaning C) (sou
     AreEvents (Some Batch) (inr did) = AnswersAreEvents line_input did
     AreEvents (Some (Ingest Text7901 provider)) (inr did) = AnswersAreEvents (wire_input provider) did
     AreEvents (Some (Ingest Ninjs provider)) (inr did) = AnswersAreEvents (item_input provider) did
+    AreEvents (Some (Import caller)) (inr did) = GoesAsEvents disk log log' side side' status did.went (λ write w g D events. ImportRunHappened (pair_of disk) clock source sink caller did.went.room did.went.after c c' i i' o o' status write w g D events did.imported)
+    AreEvents (Some (Package caller number)) (inr did) =
+        GoesAsEvents disk log log' side side' status did.went (λ write w g D events. PackageRunHappened (pair_of disk) clock source sink caller number did.went.room did.went.after c c' i i' o o' status write w g D events did.published)
     AreEvents (Some (Feed subscriber after)) did = ReportIsEvents disk clock sink log log' side side' o o' c c' status (query.Feed subscriber after) (feed_report_at subscriber after) did.1
     AreEvents (Some Queue) did = ReportIsEvents disk clock sink log log' side side' o o' c c' status query.Queue queue_report_at did.1
     AreEvents (Some Drain) did = DrainIsEvents disk clock sink log log' side side' o o' c c' status link l l' did.1

@@ -24,21 +24,25 @@ use Rattle.room_runs.specs.Wires.{IngestAnswered}
 use Rattle.store_files.specs.Files.{Files, OpenTo, OpenAlike, MayLeave, LeftSince}
 use Rattle.world_laws.specs.World.{World, Event, Reopens, opening, reopened, happens, run}
 use Rattle.newsdesk_cli.specs.Command.{HasAnswered, HasReported, HasDrained}
+use Rattle.newsdesk_cli.specs.Imports.{HasTakenTable}
+use Rattle.newsdesk_cli.specs.Packages.{HasTakenPackage}
 use Rattle.newsdesk_cli.specs.Opened.{IsLook, HasGoneOn}
 use Rattle.newsdesk_cli.specs.FilesLeft.{NoneInDoubt, FilesLeft}
 use Rattle.program_events.specs.Events.{line_input}
 use Rattle.program_events.specs.Stories.{wire_input, item_input}
 use Rattle.program_events.specs.Leads.{IsBegunOf, LeadsOn}
-use Rattle.program_events.specs.Chains.{Did, Init, Batch, Ingest, Feed, Queue, Drain, Check, Archive, Pack, Run, LeftByRun, MayCrash, IsLeftBy, world, AreOfGoing, Answers, Reports, Pushes, AreOfRun}
+use Rattle.program_events.specs.Chains.{Did, Init, Batch, Ingest, Import, Package, Feed, Queue, Drain, Check, Archive, Contents, Pack, Run, LeftByRun, MayCrash, IsLeftBy, world, AreOfGoing, Answers, Takes, Publishes, Reports, Pushes, AreOfRun}
 use Rattle.news_types.specs.Receiver.{Receiver}
 use Rattle.program_events.proofs.Turns.{run_on}
 use Rattle.program_events.proofs.Draining.{drain_happened}
+use Rattle.program_events.proofs.Imports.{import_happened, import_leads}
+use Rattle.program_events.proofs.Packages.{package_happened, package_leads}
 use Rattle.program_events.proofs.Reports.{report_happened}
 use Rattle.program_events.proofs.Runs.{batch_events, wire_events, item_events}
 use Rattle.program_events.proofs.Stores.{one_history, alike, to_both, refused_keeps, init_keeps, init_time, opened_keeps, packed_within, counts_since}
 use Rattle.system_events.specs.Systems.{Step, Runs, FilesAreLeft, AreOfSteps}
 use Rattle.system_events.proofs.Worlds.{AllOf, all_then, all_first, all_keep, OfNewsroom, Standing}
-use Rattle.system_events.proofs.Quiet.{Quiet, begun_quiet, line_quiet, wire_quiet, item_quiet, run_quiet, report_quiet, drain_quiet}
+use Rattle.system_events.proofs.Quiet.{Quiet, begun_quiet, line_quiet, wire_quiet, item_quiet, run_quiet, report_quiet, package_quiet, import_quiet, drain_quiet}
 
 -- ---- a world behind an opening
 
@@ -267,6 +271,24 @@ module _ {D S O C L : Type 0} (disk : DiskMeaning D) (clock : ClockMeaning C) (s
       of_run = is_of (Ingest Ninjs provider (inr a)) is;
     }
 
+    table_taken : (caller : Bytes) (a : HasTakenTable disk clock source sink r.log r.log' r.side r.side' r.input r.input' r.output r.output' r.clock_was r.clock_is r.status caller)
+        → r.did ≡ Import caller (inr a) → HasHappened r a.went (Takes disk clock source sink link caller r a)
+    table_taken caller a is = record {
+      shown = λ w same. import_happened disk clock source sink caller r.log r.log' r.side r.side' r.clock_was r.clock_is r.input r.input' r.output r.output' r.status a.went r.tells r.tells_side write w same a.imported;
+      leads = λ w events x. import_leads (pair_of disk) clock source sink caller a.went.room a.went.after r.clock_was r.clock_is r.input r.input' r.output r.output' r.status write w _ _ events a.imported x;
+      quiet = λ w events x. import_quiet (pair_of disk) clock source sink caller a.went.room a.went.after r.clock_was r.clock_is r.input r.input' r.output r.output' r.status write w _ _ events a.imported x;
+      of_run = is_of (Import caller (inr a)) is;
+    }
+
+    package_taken : (caller : Bytes) (number : ℕ) (a : HasTakenPackage disk clock source sink r.log r.log' r.side r.side' r.input r.input' r.output r.output' r.clock_was r.clock_is r.status caller number)
+        → r.did ≡ Package caller number (inr a) → HasHappened r a.went (Publishes disk clock source sink link caller number r a)
+    package_taken caller number a is = record {
+      shown = λ w same. package_happened disk clock source sink caller number r.log r.log' r.side r.side' r.clock_was r.clock_is r.input r.input' r.output r.output' r.status a.went r.tells r.tells_side write w same a.published;
+      leads = λ w events x. package_leads (pair_of disk) clock source sink caller number a.went.room a.went.after r.clock_was r.clock_is r.input r.input' r.output r.output' r.status write w _ _ events a.published x;
+      quiet = λ w events x. package_quiet (pair_of disk) clock source sink caller number a.went.room a.went.after r.clock_was r.clock_is r.input r.input' r.output r.output' r.status write w _ _ events a.published x;
+      of_run = is_of (Package caller number (inr a)) is;
+    }
+
     drain_ran : (a : HasDrained disk clock sink r.log r.log' r.side r.side' r.output r.output' r.clock_was r.clock_is r.status link r.links r.links') → r.did ≡ Drain (inr a) → HasHappened r a.went (Pushes disk clock source sink link r a)
     drain_ran a is = record {
       shown = λ w same.
@@ -306,6 +328,14 @@ module _ {D S O C L : Type 0} (disk : DiskMeaning D) (clock : ClockMeaning C) (s
     left_now (Ingest Ninjs provider (inl refused)) is files may =
         as_before (λ v events. subst (λ (d : TheDid). AreOfRun disk clock source sink link v events r d events) (sym is) refl) files
         (refused_keeps disk store long r.log r.side list r.tells r.tells_side from.opens r.log' r.side' refused.why.why refused.why.refused files (counts_since disk r.log r.log' (refused.why.refused.crash r.tells r.tells_side).later r.side' files may))
+    left_now (Import caller (inr a)) is files may = going_left a.went _ (table_taken caller a is) files may
+    left_now (Import caller (inl refused)) is files may =
+        as_before (λ v events. subst (λ (d : TheDid). AreOfRun disk clock source sink link v events r d events) (sym is) refl) files
+        (refused_keeps disk store long r.log r.side list r.tells r.tells_side from.opens r.log' r.side' refused.why.why refused.why.refused files (counts_since disk r.log r.log' (refused.why.refused.crash r.tells r.tells_side).later r.side' files may))
+    left_now (Package caller number (inr a)) is files may = going_left a.went _ (package_taken caller number a is) files may
+    left_now (Package caller number (inl refused)) is files may =
+        as_before (λ v events. subst (λ (d : TheDid). AreOfRun disk clock source sink link v events r d events) (sym is) refl) files
+        (refused_keeps disk store long r.log r.side list r.tells r.tells_side from.opens r.log' r.side' refused.why.why refused.why.refused files (counts_since disk r.log r.log' (refused.why.refused.crash r.tells r.tells_side).later r.side' files may))
     left_now (Feed subscriber after (inr a)) is files may = going_left a.went _ (report_ran (query.Feed subscriber after) (feed_report_at subscriber after) a (Feed subscriber after (inr a)) is (λ before events x. x)) files may
     left_now (Queue (inr a)) is files may = going_left a.went _ (report_ran query.Queue queue_report_at a (Queue (inr a)) is (λ before events x. x)) files may
     left_now (Feed subscriber after (inl refused)) is files may =
@@ -320,6 +350,7 @@ module _ {D S O C L : Type 0} (disk : DiskMeaning D) (clock : ClockMeaning C) (s
         (refused_keeps disk store long r.log r.side list r.tells r.tells_side from.opens r.log' r.side' refused.why.why.why refused.why.why.refused files (counts_since disk r.log r.log' (refused.why.why.refused.crash r.tells r.tells_side).later r.side' files may))
     left_now (Check did) is files may = looked_now (λ v events. subst (λ (d : TheDid). AreOfRun disk clock source sink link v events r d events) (sym is) refl) did files may
     left_now (Archive page query did) is files may = looked_now (λ v events. subst (λ (d : TheDid). AreOfRun disk clock source sink link v events r d events) (sym is) refl) did files may
+    left_now (Contents publication did) is files may = looked_now (λ v events. subst (λ (d : TheDid). AreOfRun disk clock source sink link v events r d events) (sym is) refl) did files may
     left_now (Pack (inl refused)) is files may =
         as_before (λ v events. subst (λ (d : TheDid). AreOfRun disk clock source sink link v events r d events) (sym is) refl) files
         (refused_keeps disk store long r.log r.side list r.tells r.tells_side from.opens r.log' r.side' refused.why refused.refused files (counts_since disk r.log r.log' (refused.refused.crash r.tells r.tells_side).later r.side' files may))
@@ -352,6 +383,14 @@ module _ {D S O C L : Type 0} (disk : DiskMeaning D) (clock : ClockMeaning C) (s
     left_then (Ingest Ninjs provider (inl refused)) is crash files may =
         as_before (λ v events. subst (λ (d : TheDid). AreOfRun disk clock source sink link v events r d events) (sym is) refl) files
         (refused_keeps disk store long r.log r.side list r.tells r.tells_side from.opens r.log' r.side' refused.why.why refused.why.refused files may)
+    left_then (Import caller (inr a)) is crash files may = going_crashed a.went _ (table_taken caller a is) files crash may
+    left_then (Import caller (inl refused)) is crash files may =
+        as_before (λ v events. subst (λ (d : TheDid). AreOfRun disk clock source sink link v events r d events) (sym is) refl) files
+        (refused_keeps disk store long r.log r.side list r.tells r.tells_side from.opens r.log' r.side' refused.why.why refused.why.refused files may)
+    left_then (Package caller number (inr a)) is crash files may = going_crashed a.went _ (package_taken caller number a is) files crash may
+    left_then (Package caller number (inl refused)) is crash files may =
+        as_before (λ v events. subst (λ (d : TheDid). AreOfRun disk clock source sink link v events r d events) (sym is) refl) files
+        (refused_keeps disk store long r.log r.side list r.tells r.tells_side from.opens r.log' r.side' refused.why.why refused.why.refused files may)
     left_then (Feed subscriber after (inr a)) is crash files may = going_crashed a.went _ (report_ran (query.Feed subscriber after) (feed_report_at subscriber after) a (Feed subscriber after (inr a)) is (λ before events x. x)) files crash may
     left_then (Queue (inr a)) is crash files may = going_crashed a.went _ (report_ran query.Queue queue_report_at a (Queue (inr a)) is (λ before events x. x)) files crash may
     left_then (Feed subscriber after (inl refused)) is crash files may =
@@ -366,6 +405,7 @@ module _ {D S O C L : Type 0} (disk : DiskMeaning D) (clock : ClockMeaning C) (s
         (refused_keeps disk store long r.log r.side list r.tells r.tells_side from.opens r.log' r.side' refused.why.why.why refused.why.why.refused files may)
     left_then (Check did) is crash files may = looked_then (λ v events. subst (λ (d : TheDid). AreOfRun disk clock source sink link v events r d events) (sym is) refl) did files may
     left_then (Archive page query did) is crash files may = looked_then (λ v events. subst (λ (d : TheDid). AreOfRun disk clock source sink link v events r d events) (sym is) refl) did files may
+    left_then (Contents publication did) is crash files may = looked_then (λ v events. subst (λ (d : TheDid). AreOfRun disk clock source sink link v events r d events) (sym is) refl) did files may
     left_then (Pack (inl refused)) is crash files may =
         as_before (λ v events. subst (λ (d : TheDid). AreOfRun disk clock source sink link v events r d events) (sym is) refl) files
         (refused_keeps disk store long r.log r.side list r.tells r.tells_side from.opens r.log' r.side' refused.why refused.refused files may)

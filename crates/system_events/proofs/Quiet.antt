@@ -1,12 +1,15 @@
 -- The events of the newsroom's runs are events of the newsroom.
-use Rattle.std.proofs.Common.{◌≡◌, ℕ, Bool, true, false, if◌then◌else◌, List, [], ◌∷◌, ◌++◌, Result, Ok, Err, sym, subst}
+use Rattle.std.proofs.Common.{◌≡◌, inl, inr, ℕ, ◌+◌, Option, Some, None, Bool, true, false, if◌then◌else◌, List, [], ◌∷◌, ◌++◌, Result, Ok, Err, sym, subst}
 use Rattle.news_types.specs.declared.entry.Entry.{Entry}
 use Rattle.news_types.specs.declared.query.Query.{Query}
+use Rattle.news_types.specs.declared.command.Command.TheVariants.{Stop}
 use Rattle.news_types.specs.Names.{Bytes}
-use Rattle.news_types.specs.History.{History}
+use Rattle.news_types.specs.History.{History, last_number}
+use Rattle.news_types.specs.Products.{is_subscriber}
 use Rattle.news_types.specs.Frames.{Writer}
 use Rattle.news_types.specs.Calls.{Fate, IsKept, IsFull, IsFailed, IsStarved}
 use Rattle.news_io.specs.Clock.{ClockMeaning}
+use Rattle.news_io.specs.Keeper.{KeeperMeaning}
 use Rattle.news_io.specs.Sink.{SinkMeaning}
 use Rattle.news_io.specs.Source.{SourceMeaning}
 use Rattle.line_run.specs.Turns.{Turn}
@@ -17,13 +20,24 @@ use Rattle.desk_lines.specs.declared.asked.Asked.{Asked}
 use Rattle.desk_lines.specs.declared.asked.Asked.TheVariants as asked
 use Rattle.desk_lines.specs.declared.property.LineProperty.{LineProperty}
 use Rattle.news_room.specs.declared.claim.Claimed.{Claimed}
+use Rattle.news_room.specs.declared.room.Room.{Room}
+use Rattle.package_rules.specs.declared.publish.Packaged.{Packaged}
+use Rattle.package_rules.specs.Composed.{Composed}
+use Rattle.subscriber_import.specs.declared.import.Imported.{Imported}
+use Rattle.subscriber_import.specs.Fields.{Wanted, wanted_of, command_of}
+use Rattle.subscriber_import.specs.Import.{behind, imported}
+use Rattle.subscriber_import.specs.Table.{Row, rows_of, behind_head}
+use Rattle.whole_runs.specs.Importing.{IsImport}
+use Rattle.whole_runs.specs.Packaging.{IsPackageRun}
 use Rattle.publish_workers.specs.Events.{sendings}
 use Rattle.publish_workers.specs.LinkDrains.{LinkDrain}
 use Rattle.publish_workers.specs.Turns.{Exchange, Unsent, Unread, Replied, Receipted, is_sent}
-use Rattle.world_laws.specs.World.{World, Event, Sends}
+use Rattle.world_laws.specs.World.{World, Event, Requests, Ticks, Sends}
 use Rattle.program_events.specs.Events.{Input, line_input, asks_for, events_if, events_of, question_events, turn_events, AreBegun}
 use Rattle.program_events.specs.Stories.{wire_input, item_input}
 use Rattle.program_events.specs.Leads.{StopsAt, BeforeAttempt, IsBegunOf}
+use Rattle.program_events.specs.Imports.{wanted_events, row_events, AreStopped, AreOfTable, ImportRunHappened}
+use Rattle.program_events.specs.Packages.{AreOfPackage, PackageRunHappened}
 use Rattle.program_events.specs.Drains.{WorldTurn, arrival, arrivals, pushed, DrainHappened}
 use Rattle.program_events.specs.Runs.{RunHappened, ReportHappened, Happened}
 use Rattle.system_events.proofs.Worlds.{AllOf, all_then, OfNewsroom}
@@ -104,6 +118,53 @@ module _ {X : Type 0} (input : Input X) (quiet : IsQuiet input) where
 pub report_quiet : {C O : Type 0} (clock : ClockMeaning C) (sink : SinkMeaning O) (q : Query) (report : History → Bytes) (write : Writer) (w : World) (o o' : O) (c c' : C) (number : ℕ) (g : History) (D : Entry → Type 0) (events : List Event)
     → ReportHappened clock sink q report write w o o' c c' number g D events → Quiet events
 report_quiet clock sink q report write w o o' c c' number g D events x = quiet_is events (question_events q x.at x.fate) x.events_are (question_quiet q x.at x.fate)
+
+-- ---- a package
+
+of_package_quiet : (write : Writer) (w : World) (caller : Bytes) (number : ℕ) (p : Composed) (at : ℕ) (answer : Packaged) (events : List Event) → AreOfPackage write w caller number p at answer events → Quiet events
+of_package_quiet write w caller number p at answer events (inl x) = quiet_is events (Ticks at x.fate ∷ []) x.events_are (tt, tt)
+of_package_quiet write w caller number p at answer events (inr (inl x)) = quiet_is events (Ticks at IsKept ∷ []) x.events_are (tt, tt)
+of_package_quiet write w caller number p at answer events (inr (inr x)) = quiet_is events _ x.events_are (tt, (tt, tt))
+
+module _ {K C S O : Type 0} (keeper : KeeperMeaning K) (clock : ClockMeaning C) (source : SourceMeaning S) (sink : SinkMeaning O) (caller : Bytes) (number : ℕ)
+    (old new : Room K) (c c' : C) (i i' : S) (o o' : O) (status : ℕ) (write : Writer) (w : World) (g : History) (D : Entry → Type 0) (events : List Event) where
+  pub package_quiet : (did : IsPackageRun keeper clock source sink caller number old new c c' i i' o o' status) → PackageRunHappened keeper clock source sink caller number old new c c' i i' o o' status write w g D events did → Quiet events
+  package_quiet (inl did) x = of_package_quiet write w caller number did.package_is x.at x.answer events x.are
+  package_quiet (inr unasked) x = quiet_is events [] x.none tt
+
+-- ---- an import
+
+wanted_quiet : (h : History) (caller : Bytes) (at : ℕ) (o : Option Wanted) (fate : Fate) → Quiet (wanted_events h caller at o fate)
+wanted_quiet h caller at None fate = tt
+wanted_quiet h caller at (Some x) fate = by (is_subscriber h x.subscriber)
+  where
+    by : (there : Bool) → Quiet (if there then [] else Requests caller 0 Stop at IsKept ∷ Requests caller (last_number h caller + 1) (command_of x) at fate ∷ [])
+    by true = tt
+    by false = (tt, (tt, tt))
+
+rows_quiet : (h : History) (caller : Bytes) (at : ℕ) (rows : List Row) → Quiet (row_events h caller at rows)
+rows_quiet h caller at [] = tt
+rows_quiet h caller at (row ∷ rows) =
+    all_then OfNewsroom (wanted_events h caller at (wanted_of row) IsKept) (row_events (behind h caller at row) caller at rows) (wanted_quiet h caller at (wanted_of row) IsKept) (rows_quiet (behind h caller at row) caller at rows)
+
+stopped_quiet : (h : History) (caller : Bytes) (at : ℕ) (rows : List Row) (fate : Fate) (events : List Event) → AreStopped h caller at rows fate events → Quiet events
+stopped_quiet h caller at rows fate events x =
+    quiet_is events (row_events h caller at x.before ++ wanted_events (imported h caller at x.before) caller at (wanted_of x.row) fate) x.events_are
+    (all_then OfNewsroom (row_events h caller at x.before) (wanted_events (imported h caller at x.before) caller at (wanted_of x.row) fate) (rows_quiet h caller at x.before) (wanted_quiet (imported h caller at x.before) caller at (wanted_of x.row) fate))
+
+of_table_quiet : (h : History) (caller : Bytes) (at : ℕ) (rows : Option (List Row)) (answer : Imported) (events : List Event) → AreOfTable h caller at rows answer events → Quiet events
+of_table_quiet h caller at None answer events x = quiet_is events [] x.1 tt
+of_table_quiet h caller at (Some rows) (Imported.Done told) events x = quiet_is events (row_events h caller at rows) x.1 (rows_quiet h caller at rows)
+of_table_quiet h caller at (Some rows) Imported.BadHead events x = absurd x
+of_table_quiet h caller at (Some rows) Imported.Fault events x = stopped_quiet h caller at rows IsFailed events x
+of_table_quiet h caller at (Some rows) (Imported.Full size count) events x = stopped_quiet h caller at rows IsFull events x
+of_table_quiet h caller at (Some rows) Imported.Memory events x = quiet_is events (row_events h caller at x.before) x.events_are (rows_quiet h caller at x.before)
+
+module _ {K C S O : Type 0} (keeper : KeeperMeaning K) (clock : ClockMeaning C) (source : SourceMeaning S) (sink : SinkMeaning O) (caller : Bytes)
+    (old new : Room K) (c c' : C) (i i' : S) (o o' : O) (status : ℕ) (write : Writer) (w : World) (g : History) (D : Entry → Type 0) (events : List Event) where
+  pub import_quiet : (did : IsImport keeper clock source sink caller old new c c' i i' o o' status) → ImportRunHappened keeper clock source sink caller old new c c' i i' o o' status write w g D events did → Quiet events
+  import_quiet (inl did) x = of_table_quiet w.server.list caller x.at (behind_head (rows_of did.table)) x.answer events x.are
+  import_quiet (inr unread) x = quiet_is events [] x.none tt
 
 -- ---- what is pushed
 

@@ -93,6 +93,24 @@ returns-in-Pack-clause-receives g c told = rw c.in-Pack.is tt
 pub returns-in-Pack-clause-links : goal.returns-in-Pack-clause-links
 returns-in-Pack-clause-links g c other = refl
 
+pub returns-in-Import-clause-does : goal.returns-in-Import-clause-does
+returns-in-Import-clause-does g c = rw c.in-Import.is c.take_table.ensures
+
+pub returns-in-Import-clause-receives : goal.returns-in-Import-clause-receives
+returns-in-Import-clause-receives g c told = rw c.in-Import.is tt
+
+pub returns-in-Import-clause-links : goal.returns-in-Import-clause-links
+returns-in-Import-clause-links g c other = refl
+
+pub returns-in-Package-clause-does : goal.returns-in-Package-clause-does
+returns-in-Package-clause-does g c = rw c.in-Package.is c.take_package.ensures
+
+pub returns-in-Package-clause-receives : goal.returns-in-Package-clause-receives
+returns-in-Package-clause-receives g c told = rw c.in-Package.is tt
+
+pub returns-in-Package-clause-links : goal.returns-in-Package-clause-links
+returns-in-Package-clause-links g c other = refl
+
 pub returns-in-Archive-clause-does : goal.returns-in-Archive-clause-does
 returns-in-Archive-clause-does g c =
     rw c.in-Archive.is (
@@ -105,3 +123,12 @@ returns-in-Archive-clause-receives g c told = rw c.in-Archive.is tt
 
 pub returns-in-Archive-clause-links : goal.returns-in-Archive-clause-links
 returns-in-Archive-clause-links g c other = refl
+
+pub returns-in-Contents-clause-does : goal.returns-in-Contents-clause-does
+returns-in-Contents-clause-does g c = rw c.in-Contents.is (record { input_same = refl; clock_same = refl }, c.list_contents.ensures)
+
+pub returns-in-Contents-clause-receives : goal.returns-in-Contents-clause-receives
+returns-in-Contents-clause-receives g c told = rw c.in-Contents.is tt
+
+pub returns-in-Contents-clause-links : goal.returns-in-Contents-clause-links
+returns-in-Contents-clause-links g c other = refl

@@ -1,0 +1,33 @@
+//! Packages, and what they hold.
+ghost use Rattle.newsdesk_cli.specs.Packages.{IsPackageOf};
+
+use crate::telling::tell_trouble;
+use news_io::{Clock, Disk, Sink, Source};
+use news_types::Name;
+use std::alloc::Global;
+use store_files::open_room;
+use whole_runs::package_input;
+
+/// Publishes the package that the input is, as this caller's request of this number.
+#[tactic(none)]
+pub(crate) fn take_package<S: Source, O: Sink, D: Disk, C: Clock>(
+    alloc: Global,
+    input: &mut S,
+    output: &mut O,
+    log: D,
+    side: D,
+    clock: &mut C,
+    caller: Name,
+    number: u64,
+) -> (u8, D, D)
+    ensures { IsPackageOf D.disk C.clock S.source O.sink log result.1 side result.2 input.old input.new output.old output.new clock.old clock.new result.0 caller number }
+{
+    match open_room(alloc, log, side) {
+        Ok(mut room) => {
+            let status = package_input(alloc, input, output, &mut room, clock, caller, number);
+            let (log, side) = room.into_keeper().into_disks();
+            (status, log, side)
+        }
+        Err((log, side, trouble)) => (tell_trouble(output, trouble), log, side),
+    }
+}
