@@ -170,6 +170,13 @@ def bad_query(at):
     return 400, keyed(answer="bad-query", at=at), JSON
 
 
+def contents(associations, *rows):
+    """What a publication holds: the items of its roles, and a row for each member."""
+    names = ("depth", "item", "publication", "role")
+    named = {role: {"uri": "urn:uuid:" + str(uuid.uuid5(STORE, f"item:{item}"))} for role, item in associations.items()}
+    return told("contents", associations=named, rows=[dict(zip(names, row)) for row in rows])
+
+
 def bare(status):
     return status, "", JSON
 
@@ -502,6 +509,23 @@ PACKAGES = Connection(
     package("admin", 8, MAIN, no_readers(7)),
     # a package may be a member
     package("admin", 8, {"pack": 2}, done(8, 3, 4, 1032)),
+    # what they hold: a member, and a package whose own member stands a level deeper, at the publication that was there before it
+    get("/publications/2/contents", "admin", contents(MAIN, (1, 1, 1, "main"))),
+    get("/publications/4/contents", "ana", contents({"pack": 2}, (1, 2, 2, "pack"), (2, 1, 1, "main"))),
+    # a story, a kill and what is no publication hold nothing
+    get("/publications/1/contents", "admin", contents({})),
+    get("/publications/3/contents", "admin", contents({})),
+    get("/publications/0/contents", "admin", contents({})),
+    get("/publications/5/contents", "admin", contents({})),
+    get("/publications/4294967295/contents", "admin", contents({})),
+    # who is no user, no name, no number and no route
+    get("/publications/2/contents", "zoe", bare(403)),
+    get("/publications/2/contents", None, bare(400)),
+    get("/publications/02/contents", "admin", bare(400)),
+    get("/publications/4294967296/contents", "admin", bare(400)),
+    get("/publications/two/contents", "zoe", bare(400)),
+    get("/publications/2", "admin", bare(404)),
+    Ask("POST /publications/2/contents", "admin", bare(404)),
 )
 
 FIRST = (1, 1, 1, "first", "1970-01-01T00:16:41Z")
@@ -613,6 +637,20 @@ PACKAGE_TICKS = [
         *WAITING_MEMBER,
         archive("admin", 0, "number above", bare(503)),
         archive("admin", 0, "number above", bad_query(12)),
+        MEMBER_ALONE,
+        failing=7,
+    ),
+    Connection(
+        "the log fails at the tick of what a publication holds",
+        "Closed",
+        *WAITING_MEMBER,
+        # whoever has no right lets no time pass
+        get("/publications/1/contents", "zoe", bare(403)),
+        get("/publications/1/contents", "admin", bare(503)),
+        # the tick lets the member in, as entry 7
+        get("/publications/1/contents", "admin", contents({})),
+        city(number=7, wanted=denied("NameTaken")),
+        post("admin", 7, "add_desk", done(8), desk="town"),
         MEMBER_ALONE,
         failing=7,
     ),

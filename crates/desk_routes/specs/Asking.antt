@@ -17,7 +17,7 @@ use Rattle.http_wire.specs.declared.request.HttpRequest.{HttpRequest}
 use Rattle.desk_routes.specs.declared.route.Route.{Route}
 use Rattle.desk_routes.specs.declared.route.Route.TheVariants as the
 use Rattle.desk_routes.specs.declared.ask.HttpAsk.{HttpAsk}
-use Rattle.desk_routes.specs.declared.ask.HttpAsk.TheVariants.{Request, Query, Receipt, Ingest, Archive, Package}
+use Rattle.desk_routes.specs.declared.ask.HttpAsk.TheVariants.{Request, Query, Receipt, Ingest, Archive, Package, Contents}
 use Rattle.desk_routes.specs.declared.ask.Asking.{Asking}
 use Rattle.desk_routes.specs.declared.ask.Refusal.{Refusal}
 use Rattle.desk_routes.specs.declared.ask.Refusal.TheVariants.{NoRoute, NoCaller, BadPath, BadBody, BadItem, Memory}
@@ -110,6 +110,11 @@ archive_ask body = from_line (archive_body body)
 abbrev pub package_ask : Bytes → Bytes → Result HttpAsk Refusal
 package_ask caller body = from_package caller (package_body body)
 
+abbrev pub contents_ask : Bytes → Result HttpAsk Refusal
+contents_ask path = do
+  publication ← number_at 2 path
+  Ok (Contents publication)
+
 -- what a caller asks by a route: with this path and this body
 abbrev pub ask_by : Route → Bytes → Bytes → Bytes → Result HttpAsk Refusal
 ask_by the.Requests caller path body = request_ask caller body
@@ -121,6 +126,7 @@ ask_by the.Receipts caller path body = receipt_ask path body
 ask_by the.Ingest caller path body = ingest_ask path body
 ask_by the.Archive caller path body = archive_ask body
 ask_by the.Packages caller path body = package_ask caller body
+ask_by the.Contents caller path body = contents_ask path
 
 -- ---- requests
 

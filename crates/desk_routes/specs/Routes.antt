@@ -8,7 +8,7 @@ use Rattle.matchit.specs.Seek.{first}
 use Rattle.matchit.specs.declared.error.InsertError.{InsertError}
 use Rattle.news_types.specs.Names.{Bytes, same}
 use Rattle.desk_routes.specs.declared.route.Route.{Route}
-use Rattle.desk_routes.specs.declared.route.Route.TheVariants.{Requests, Item, Queue, FeedAfter, Frame, Receipts, Ingest, Archive, Packages}
+use Rattle.desk_routes.specs.declared.route.Route.TheVariants.{Requests, Item, Queue, FeedAfter, Frame, Receipts, Ingest, Archive, Packages, Contents}
 
 -- what the paths of a route look like
 abbrev pub pattern_of : Route → Bytes
@@ -21,6 +21,7 @@ pattern_of Receipts = codes "/feeds/{subscriber}/receipts"
 pattern_of Ingest = codes "/ingest/{provider}/ninjs"
 pattern_of Archive = codes "/archive"
 pattern_of Packages = codes "/packages"
+pattern_of Contents = codes "/publications/{publication}/contents"
 
 -- the one method of a route
 abbrev pub method_of : Route → Bytes
@@ -33,6 +34,7 @@ method_of Receipts = codes "POST"
 method_of Ingest = codes "POST"
 method_of Archive = codes "POST"
 method_of Packages = codes "POST"
+method_of Contents = codes "GET"
 
 -- the rows of a router of routes
 abbrev pub Rows : Type 0
@@ -46,10 +48,11 @@ with_read (Err error) route rows = rows
 abbrev pub with_route : Route → Rows → Rows
 with_route route rows = with_read (parse_route (pattern_of route)) route rows
 
--- the rows of the nine routes
-abbrev pub nine : Rows
-nine =
-    with_route Packages
+-- the rows of the ten routes
+abbrev pub ten : Rows
+ten =
+    with_route Contents
+    (with_route Packages
     (with_route Archive
     (with_route Ingest
     (with_route Receipts
@@ -57,7 +60,7 @@ nine =
     (with_route FeedAfter
     (with_route Queue
     (with_route Item
-    (with_route Requests []))))))))
+    (with_route Requests [])))))))))
 
 abbrev pub value_of : Option (RouteOf Route) → Option Route
 value_of None = None
@@ -65,7 +68,7 @@ value_of (Some row) = Some row.value
 
 -- the route of a path
 abbrev pub route_of : Bytes → Option Route
-route_of path = value_of (first nine path)
+route_of path = value_of (first ten path)
 
 abbrev pub if_method : Bytes → Option Route → Option Route
 if_method method None = None

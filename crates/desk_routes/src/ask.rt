@@ -48,6 +48,10 @@ pub enum HttpAsk {
         number: u64,
         described: Described,
     },
+    /// A question for what a publication holds as a package.
+    Contents {
+        publication: u32,
+    },
 }
 
 /// Who asks, and what.
@@ -137,6 +141,7 @@ fn ask_by(
         Route::Ingest => ingest_ask(alloc, path, body),
         Route::Archive => archive_ask(alloc, body),
         Route::Packages => package_ask(alloc, caller, body),
+        Route::Contents => contents_ask(path),
     }
 }
 
@@ -243,6 +248,14 @@ fn package_ask(alloc: Global, caller: Name, body: &[u8]) -> Result<HttpAsk, Refu
         Err(LineFault::Bad { property }) => Err(Refusal::BadBody { property }),
         Err(LineFault::Memory) => Err(Refusal::Memory),
     }
+}
+
+fn contents_ask(path: &str) -> Result<HttpAsk, Refusal>
+    ensures value { result ≡ said.contents_ask path.now }
+    ensures fits { IfOk result FitsAsk }
+{
+    let publication = needs_number(path, 2)?;
+    Ok(HttpAsk::Contents { publication })
 }
 
 fn of_line(asked: Asked) -> HttpAsk

@@ -39,7 +39,7 @@ pub fn right_of(ask: &HttpAsk) -> Right
         HttpAsk::Query(query) => right_of_query(*query),
         HttpAsk::Receipt { subscriber, .. } => Right::Subscriber(*subscriber),
         HttpAsk::Ingest { .. } => Right::Holder(Privilege::Ingest),
-        HttpAsk::Archive { .. } | HttpAsk::Package { .. } => Right::User,
+        HttpAsk::Archive { .. } | HttpAsk::Package { .. } | HttpAsk::Contents { .. } => Right::User,
     }
 }
 

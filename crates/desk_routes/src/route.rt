@@ -1,6 +1,6 @@
 //! The routes of requests.
 ghost use Rattle.std.specs.Prelude.{◌≡◌, IfOk, OnOk};
-ghost use Rattle.desk_routes.specs.Routes.{if_method, method_of, pattern_of, route_of, routed, nine, with_route};
+ghost use Rattle.desk_routes.specs.Routes.{if_method, method_of, pattern_of, route_of, routed, ten, with_route};
 
 use http::Method;
 use matchit::Router;
@@ -20,6 +20,7 @@ pub enum Route {
     Ingest,
     Archive,
     Packages,
+    Contents,
 }
 
 impl Route {
@@ -37,6 +38,7 @@ impl Route {
             Route::Ingest => "/ingest/{provider}/ninjs",
             Route::Archive => "/archive",
             Route::Packages => "/packages",
+            Route::Contents => "/publications/{publication}/contents",
         }
     }
 
@@ -47,7 +49,7 @@ impl Route {
         match self {
             Route::Requests | Route::Receipts | Route::Ingest | Route::Archive | Route::Packages =>
                 "POST",
-            Route::Item | Route::Queue | Route::FeedAfter | Route::Frame => "GET",
+            Route::Item | Route::Queue | Route::FeedAfter | Route::Frame | Route::Contents => "GET",
         }
     }
 }
@@ -62,9 +64,9 @@ fn put(router: &mut Router<Route>, route: Route) -> Result<(), Memory>
     }
 }
 
-/// The router of the nine routes.
+/// The router of the ten routes.
 fn router_of_all(alloc: Global) -> Result<Router<Route>, Memory>
-    ensures { IfOk result (λ router. router ≡ nine) }
+    ensures { IfOk result (λ router. router ≡ ten) }
 {
     let mut router = Router::new(alloc);
     put(&mut router, Route::Requests)?;
@@ -76,12 +78,13 @@ fn router_of_all(alloc: Global) -> Result<Router<Route>, Memory>
     put(&mut router, Route::Ingest)?;
     put(&mut router, Route::Archive)?;
     put(&mut router, Route::Packages)?;
+    put(&mut router, Route::Contents)?;
     Ok(router)
 }
 
 /// The route of a path.
 fn route_at(router: &Router<Route>, path: &str) -> Option<Route>
-    requires { router.now ≡ nine }
+    requires { router.now ≡ ten }
     ensures { result ≡ route_of path.now }
 {
     match router.at(path) {
@@ -90,7 +93,7 @@ fn route_at(router: &Router<Route>, path: &str) -> Option<Route>
     }
 }
 
-/// The nine routes by their paths: made once, for any number of requests.
+/// The ten routes by their paths: made once, for any number of requests.
 #[derive(Drop)]
 pub struct Routes {
     alloc: Global,
@@ -99,13 +102,13 @@ pub struct Routes {
 
 impl Model for Routes {
     ghost use Rattle.std.specs.Prelude.{◌≡◌};
-    ghost use Rattle.desk_routes.specs.Routes.{nine};
+    ghost use Rattle.desk_routes.specs.Routes.{ten};
 
     ghost Value = { Unit {0} };
 
     ghost view = { λ a. tt };
 
-    ghost invariant = { λ a. a.router ≡ nine };
+    ghost invariant = { λ a. a.router ≡ ten };
 }
 
 impl Routes {

@@ -8,7 +8,6 @@ use Rattle.news_types.specs.History.{History, moment_at}
 use Rattle.news_types.specs.Answers.{query_answer}
 use Rattle.news_types.specs.Books.{Book}
 use Rattle.news_io.specs.Keeper.{KeeperMeaning}
-use Rattle.feed_frames.specs.Writer.{the_writer}
 use Rattle.news_room.specs.Stands.{Stands}
 use Rattle.news_room.specs.declared.room.Room.{Room}
 use Rattle.desk_routes.specs.declared.ask.Asking.{Asking}
@@ -32,10 +31,10 @@ asked_right h caller right wanted frame question told allowed is heard guards sa
 module _ {K : Type 0} (keeper : KeeperMeaning K) where
   -- the outcome, by whether the caller may ask
   by_right : (old new : Room K) (b : Book) (more : List Entry) (a : Asking) (now : ℕ) (response : Response) (may : Bool) → may_ask b.list a.caller (right_of a.ask) ≡ may
-      → HttpTurn keeper old new b more (cond may (ask_outcome (the_writer b.store) b.list a.ask (moment_at b.list now)) (unasked (notice_response notice.Forbidden))) response (AskingEvents keeper old new b more a now response) → AskingTurn keeper old new b more a now response
+      → HttpTurn keeper old new b more (cond may (ask_outcome b.store b.list a.ask (moment_at b.list now)) (unasked (notice_response notice.Forbidden))) response (AskingEvents keeper old new b more a now response) → AskingTurn keeper old new b more a now response
   by_right old new b more a now response may is t =
-      subst (λ (o : HttpOutcome). HttpTurn keeper old new b more o response (AskingEvents keeper old new b more a now response)) (sym (judged (the_writer b.store) b.list a (moment_at b.list now)))
-      (subst (λ (allowed : Bool). HttpTurn keeper old new b more (cond allowed (ask_outcome (the_writer b.store) b.list a.ask (moment_at b.list now)) (unasked (notice_response notice.Forbidden))) response (AskingEvents keeper old new b more a now response)) (sym is) t)
+      subst (λ (o : HttpOutcome). HttpTurn keeper old new b more o response (AskingEvents keeper old new b more a now response)) (sym (judged b.store b.list a (moment_at b.list now)))
+      (subst (λ (allowed : Bool). HttpTurn keeper old new b more (cond allowed (ask_outcome b.store b.list a.ask (moment_at b.list now)) (unasked (notice_response notice.Forbidden))) response (AskingEvents keeper old new b more a now response)) (sym is) t)
 
   -- the caller has the right
   pub allowed_turn : (old new : Room K) (b : Book) (more : List Entry) (a : Asking) (now : ℕ) (response : Response) → may_ask b.list a.caller (right_of a.ask) ≡ true → AskTurn keeper old new b more a.ask now response → AskingTurn keeper old new b more a now response
@@ -50,5 +49,5 @@ module _ {K : Type 0} (keeper : KeeperMeaning K) where
   -- there was no memory to know it
   pub unknown_turn : (room : Room K) (b : Book) (a : Asking) (now : ℕ) (response : Response) → Stands keeper room b → response ≡ notice_response notice.NoMemory → AskingTurn keeper room room b [] a now response
   unknown_turn room b a now response stands is =
-      still_turn keeper room b (asking_outcome (the_writer b.store) b.list a (moment_at b.list now)) response (AskingEvents keeper room room b [] a now response) stands
-      (comes_starved keeper room (asking_outcome (the_writer b.store) b.list a (moment_at b.list now)) response is) (inl (still keeper room))
+      still_turn keeper room b (asking_outcome b.store b.list a (moment_at b.list now)) response (AskingEvents keeper room room b [] a now response) stands
+      (comes_starved keeper room (asking_outcome b.store b.list a (moment_at b.list now)) response is) (inl (still keeper room))

@@ -9,7 +9,6 @@ use Rattle.news_types.specs.Books.{Book, onto}
 use Rattle.news_types.specs.Outcome.{request, ingest, receipt}
 use Rattle.news_types.specs.Calls.{Call, Requested, Ingested, Receipted, Answer}
 use Rattle.news_io.specs.Keeper.{KeeperMeaning}
-use Rattle.feed_frames.specs.Writer.{the_writer}
 use Rattle.news_room.specs.Stands.{Stands, numbers}
 use Rattle.news_room.specs.Said.{said, said_kept, is_failure}
 use Rattle.news_room.specs.Steps.{RequestStep, IngestStep, ReceiptStep, ToldStep}
@@ -57,21 +56,21 @@ module _ {K : Type 0} (keeper : KeeperMeaning K) where
   pub request_turn : (old new : Room K) (b : Book) (more : List Entry) (caller : Bytes) (number : ℕ) (command : Command) (now : ℕ) (answered : Handled) (response : Response)
       → Happens keeper old new b more (Requested caller number command) now (said answered) (RequestStep (numbers keeper old new) b now caller number command more answered) → IsTold (said answered) response → AskTurn keeper old new b more (ask.Request caller number command) now response
   request_turn old new b more caller number command now answered response h heard =
-      subst (λ (o : HttpOutcome). HttpTurn keeper old new b more o response (Calls keeper old new b more (Requested caller number command) now response)) (sym (requested (the_writer b.store) b.list caller number command (moment_at b.list now)))
+      subst (λ (o : HttpOutcome). HttpTurn keeper old new b more o response (Calls keeper old new b more (Requested caller number command) now response)) (sym (requested b.store b.list caller number command (moment_at b.list now)))
       (call_turn old new b more (Requested caller number command) now (said answered) response (replied (request b.list caller number command now)) h.stands h.event h.told heard
       (comes_answered (numbers keeper old new) more (request b.list caller number command now) answered response h.step heard))
 
   pub ingest_turn : (old new : Room K) (b : Book) (more : List Entry) (provider : Bytes) (incoming : Incoming) (now : ℕ) (answered : Handled) (response : Response)
       → Happens keeper old new b more (Ingested provider incoming) now (said answered) (IngestStep (numbers keeper old new) b now provider incoming more answered) → IsTold (said answered) response → AskTurn keeper old new b more (ask.Ingest provider incoming) now response
   ingest_turn old new b more provider incoming now answered response h heard =
-      subst (λ (o : HttpOutcome). HttpTurn keeper old new b more o response (Calls keeper old new b more (Ingested provider incoming) now response)) (sym (ingested (the_writer b.store) b.list provider incoming (moment_at b.list now)))
+      subst (λ (o : HttpOutcome). HttpTurn keeper old new b more o response (Calls keeper old new b more (Ingested provider incoming) now response)) (sym (ingested b.store b.list provider incoming (moment_at b.list now)))
       (call_turn old new b more (Ingested provider incoming) now (said answered) response (replied (ingest b.list provider incoming now)) h.stands h.event h.told heard
       (comes_answered (numbers keeper old new) more (ingest b.list provider incoming now) answered response h.step heard))
 
   pub receipt_turn : (old new : Room K) (b : Book) (more : List Entry) (subscriber : Bytes) (n now : ℕ) (answered : kept.Kept) (response : Response)
       → Happens keeper old new b more (Receipted subscriber n) now (said_kept answered) (ReceiptStep (numbers keeper old new) b now subscriber n more answered) → IsTold (said_kept answered) response → AskTurn keeper old new b more (ask.Receipt subscriber n) now response
   receipt_turn old new b more subscriber n now answered response h heard =
-      subst (λ (o : HttpOutcome). HttpTurn keeper old new b more o response (Calls keeper old new b more (Receipted subscriber n) now response)) (sym (received (the_writer b.store) b.list subscriber n (moment_at b.list now)))
+      subst (λ (o : HttpOutcome). HttpTurn keeper old new b more o response (Calls keeper old new b more (Receipted subscriber n) now response)) (sym (received b.store b.list subscriber n (moment_at b.list now)))
       (call_turn old new b more (Receipted subscriber n) now (said_kept answered) response (replied (receipt b.list subscriber n now)) h.stands h.event h.told heard
       (comes_received (numbers keeper old new) more (receipt b.list subscriber n now) answered response (receipt_limit b.list subscriber n (moment_at b.list now)) h.step heard))
 

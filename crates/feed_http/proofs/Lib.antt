@@ -5,7 +5,7 @@ pub mod Coming
 pub mod Doubts
 pub mod Calling
 pub mod Questions
-pub mod Searches
+pub mod Tellings
 pub mod Packages
 pub mod Callers
 pub mod ReadAs

@@ -12,8 +12,8 @@ use Rattle.news_types.specs.Answers.{query_answer}
 use Rattle.news_types.specs.Outcome.{Outcome, request_at, ingest_at, receipt_at}
 use Rattle.news_types.specs.Outcome as outcome
 use Rattle.news_types.specs.Calls.{ticked}
+use Rattle.feed_frames.specs.Writer.{the_writer}
 use Rattle.news_room.specs.Steps.{tick_entries, entries}
-use Rattle.archive_search.specs.Told.{archive_told}
 use Rattle.package_rules.specs.Composed.{Composed}
 use Rattle.package_rules.specs.Readers.{readers}
 use Rattle.package_rules.specs.Publishing.{flash_of}
@@ -26,22 +26,22 @@ use Rattle.desk_routes.specs.declared.response.Notice.TheVariants as notice
 use Rattle.desk_routes.specs.Rights.{right_of, may_ask}
 use Rattle.desk_routes.specs.Responses.{answered_response, answer_response, refusal_response, notice_response}
 use Rattle.http_wire.specs.declared.request.HttpRequest.{HttpRequest}
-use Rattle.feed_http.specs.Outcome.{HttpOutcome, archive_response, no_readers_response, package_of, flash_outcome, package_outcome, with_tick, ask_outcome, asking_outcome, read_outcome, unasked, asks, http}
+use Rattle.feed_http.specs.Outcome.{HttpOutcome, search_response, contents_response, no_readers_response, package_of, flash_outcome, package_outcome, with_tick, told_behind, ask_outcome, asking_outcome, read_outcome, unasked, asks, http}
 
 abbrev pub replied : Outcome outcome.Answered → HttpOutcome
 replied o = record { response = answered_response o.answer; adds = entries o.more }
 
-pub requested : (write : Writer) (h : History) (caller : Bytes) (number : ℕ) (command : Command) (m : ℕ) → ask_outcome write h (ask.Request caller number command) m ≡ replied (request_at h caller number command m)
+pub requested : (store : Bytes) (h : History) (caller : Bytes) (number : ℕ) (command : Command) (m : ℕ) → ask_outcome store h (ask.Request caller number command) m ≡ replied (request_at h caller number command m)
 unfolding ask_outcome
-requested write h caller number command m = refl
+requested store h caller number command m = refl
 
-pub ingested : (write : Writer) (h : History) (provider : Bytes) (incoming : Incoming) (m : ℕ) → ask_outcome write h (ask.Ingest provider incoming) m ≡ replied (ingest_at h provider incoming m)
+pub ingested : (store : Bytes) (h : History) (provider : Bytes) (incoming : Incoming) (m : ℕ) → ask_outcome store h (ask.Ingest provider incoming) m ≡ replied (ingest_at h provider incoming m)
 unfolding ask_outcome
-ingested write h provider incoming m = refl
+ingested store h provider incoming m = refl
 
-pub received : (write : Writer) (h : History) (subscriber : Bytes) (n m : ℕ) → ask_outcome write h (ask.Receipt subscriber n) m ≡ replied (receipt_at h subscriber n m)
+pub received : (store : Bytes) (h : History) (subscriber : Bytes) (n m : ℕ) → ask_outcome store h (ask.Receipt subscriber n) m ≡ replied (receipt_at h subscriber n m)
 unfolding ask_outcome
-received write h subscriber n m = refl
+received store h subscriber n m = refl
 
 -- the response to a question at a list
 unfoldable pub answer_to : Writer → History → Query → Response
@@ -54,21 +54,21 @@ answer_is write h question told is = ap answer_response is
 abbrev pub questioned : Writer → History → ℕ → Query → HttpOutcome
 questioned write h m question = record { response = answer_to write (ticked h m) question; adds = tick_entries h m }
 
-pub asked : (write : Writer) (h : History) (question : Query) (m : ℕ) → ask_outcome write h (ask.Query question) m ≡ questioned write h m question
+pub asked : (store : Bytes) (h : History) (question : Query) (m : ℕ) → ask_outcome store h (ask.Query question) m ≡ questioned (the_writer store) h m question
 unfolding ask_outcome answer_to
-asked write h question m = refl
+asked store h question m = refl
 
--- what is found in the archive of the list behind a tick
-abbrev pub searched : History → ℕ → ℕ → Bytes → HttpOutcome
-searched h m page query = record { response = archive_response (archive_told (ticked h m) page query); adds = tick_entries h m }
-
-pub searches : (write : Writer) (h : History) (page : ℕ) (query : Bytes) (m : ℕ) → ask_outcome write h (ask.Archive page query) m ≡ searched h m page query
+pub searches : (store : Bytes) (h : History) (page : ℕ) (query : Bytes) (m : ℕ) → ask_outcome store h (ask.Archive page query) m ≡ told_behind h m (search_response page query)
 unfolding ask_outcome
-searches write h page query m = refl
+searches store h page query m = refl
 
-pub packages : (write : Writer) (h : History) (caller : Bytes) (number : ℕ) (described : Described) (m : ℕ) → ask_outcome write h (ask.Package caller number described) m ≡ with_tick h m (package_outcome write (ticked h m) m caller number (package_of described))
+pub holds : (store : Bytes) (h : History) (publication m : ℕ) → ask_outcome store h (ask.Contents publication) m ≡ told_behind h m (contents_response store publication)
 unfolding ask_outcome
-packages write h caller number described m = refl
+holds store h publication m = refl
+
+pub packages : (store : Bytes) (h : History) (caller : Bytes) (number : ℕ) (described : Described) (m : ℕ) → ask_outcome store h (ask.Package caller number described) m ≡ with_tick h m (package_outcome (the_writer store) (ticked h m) m caller number (package_of described))
+unfolding ask_outcome
+packages store h caller number described m = refl
 
 by_readers : (write : Writer) (g : History) (m : ℕ) (caller : Bytes) (number : ℕ) (p : Composed) → package_outcome write g m caller number p ≡ flash_outcome write g m caller number p (readers g p.members)
 unfolding package_outcome
@@ -86,18 +86,18 @@ flashed_to write g m caller number p (reader ∷ more) some = refl
 pub with_readers : (write : Writer) (g : History) (m : ℕ) (caller : Bytes) (number : ℕ) (p : Composed) → (readers g p.members ≡ [] → ⊥) → package_outcome write g m caller number p ≡ replied (request_at g caller number (flash_of p g) m)
 with_readers write g m caller number p some = by_readers write g m caller number p ∙ flashed_to write g m caller number p (readers g p.members) some
 
-pub judged : (write : Writer) (h : History) (a : Asking) (m : ℕ) → asking_outcome write h a m ≡ cond (may_ask h a.caller (right_of a.ask)) (ask_outcome write h a.ask m) (unasked (notice_response notice.Forbidden))
+pub judged : (store : Bytes) (h : History) (a : Asking) (m : ℕ) → asking_outcome store h a m ≡ cond (may_ask h a.caller (right_of a.ask)) (ask_outcome store h a.ask m) (unasked (notice_response notice.Forbidden))
 unfolding asking_outcome
-judged write h a m = refl
+judged store h a m = refl
 
-pub read_ok : (write : Writer) (h : History) (a : Asking) (m : ℕ) → read_outcome write h (Ok a) m ≡ asking_outcome write h a m
+pub read_ok : (store : Bytes) (h : History) (a : Asking) (m : ℕ) → read_outcome store h (Ok a) m ≡ asking_outcome store h a m
 unfolding read_outcome
-read_ok write h a m = refl
+read_ok store h a m = refl
 
-pub read_err : (write : Writer) (h : History) (refusal : Refusal) (m : ℕ) → read_outcome write h (Err refusal) m ≡ unasked (refusal_response refusal)
+pub read_err : (store : Bytes) (h : History) (refusal : Refusal) (m : ℕ) → read_outcome store h (Err refusal) m ≡ unasked (refusal_response refusal)
 unfolding read_outcome
-read_err write h refusal m = refl
+read_err store h refusal m = refl
 
-pub http_is : (write : Writer) (h : History) (request : HttpRequest) (reading : ℕ) → http write h request reading ≡ read_outcome write h (asks request) (moment_at h reading)
+pub http_is : (store : Bytes) (h : History) (request : HttpRequest) (reading : ℕ) → http store h request reading ≡ read_outcome store h (asks request) (moment_at h reading)
 unfolding http
-http_is write h request reading = refl
+http_is store h request reading = refl

@@ -139,8 +139,8 @@ module _ {K : Type 0} (keeper : KeeperMeaning K) (caller : Bytes) (number : ℕ)
     moment_is : moment_at g now ≡ m
     moment_is = ap (λ (l : History). moment_at l now) list_is ∙ moment_behind h now
 
-    outcome_is : ask_outcome (the_writer b.store) h (ask.Package caller number described) m ≡ with_tick h m P
-    outcome_is = packages (the_writer b.store) h caller number described m
+    outcome_is : ask_outcome b.store h (ask.Package caller number described) m ≡ with_tick h m P
+    outcome_is = packages b.store h caller number described m
         ∙ sym (λ i. with_tick h m (package_outcome (the_writer b.store) (list_is i) (moment_is i) caller number p))
 
     after_tick : After keeper old mid b ticks released false (Unit {0})
@@ -261,7 +261,7 @@ module _ {K : Type 0} (keeper : KeeperMeaning K) (caller : Bytes) (number : ℕ)
 
     as_packaged : HttpTurn keeper old mid b released (with_tick b.list (moment_at b.list now) (package_outcome (the_writer b.store) (ticked b.list (moment_at b.list now)) (moment_at b.list now) caller number p)) response (PackageEvents keeper old mid b released caller number p now response)
         → AskTurn keeper old mid b released (ask.Package caller number described) now response
-    as_packaged x = subst (λ (o : HttpOutcome). HttpTurn keeper old mid b released o response (PackageEvents keeper old mid b released caller number p now response)) (sym (packages (the_writer b.store) b.list caller number described (moment_at b.list now))) x
+    as_packaged x = subst (λ (o : HttpOutcome). HttpTurn keeper old mid b released o response (PackageEvents keeper old mid b released caller number p now response)) (sym (packages b.store b.list caller number described (moment_at b.list now))) x
 
     told_longer : (fails : Bool) → Stands keeper mid (onto released b) → (b.told ≡ true → ToldStep keeper old mid b (tick_entries b.list (moment_at b.list now)) released fails) → b.told ≡ true → ToldStep keeper old mid b (tick_entries b.list (moment_at b.list now) ++ asked_adds) released fails
     told_longer fails stands told = (after_longer keeper old mid b (tick_entries b.list (moment_at b.list now)) asked_adds released fails (Unit {0}) (Unit {0}) (record { stands = stands; did = tt; told = told }) tt).told
@@ -334,6 +334,6 @@ module _ {K : Type 0} (keeper : KeeperMeaning K) (caller : Bytes) (number : ℕ)
   pub unmade_turn : (room : Room K) → response ≡ notice_response notice.NoMemory → TurnedTo room room
   unmade_turn room none = (
     [],
-    λ b stands. still_turn keeper room b (ask_outcome (the_writer b.store) b.list (ask.Package caller number described) (moment_at b.list now)) response (PackageEvents keeper room room b [] caller number p now response) stands
-        (unheard keeper room (ask_outcome (the_writer b.store) b.list (ask.Package caller number described) (moment_at b.list now)) response none) (inl (still keeper room)),
+    λ b stands. still_turn keeper room b (ask_outcome b.store b.list (ask.Package caller number described) (moment_at b.list now)) response (PackageEvents keeper room room b [] caller number p now response) stands
+        (unheard keeper room (ask_outcome b.store b.list (ask.Package caller number described) (moment_at b.list now)) response none) (inl (still keeper room)),
   )

@@ -131,7 +131,7 @@ module _ {K : Type 0} (keeper : KeeperMeaning K) (old new : Room K) (b : Book) (
 module _ {K : Type 0} (keeper : KeeperMeaning K) (old new : Room K) (b : Book) (more : List Entry) (question : Query) (now : ℕ) (response : Response) where
   -- the outcome of a question, said by its own words
   as_asked : HttpTurn keeper old new b more (questioned (the_writer b.store) b.list (moment_at b.list now) question) response (TicksAndAsks keeper old new b more question now response) → AskTurn keeper old new b more (ask.Query question) now response
-  as_asked t = subst (λ (o : HttpOutcome). HttpTurn keeper old new b more o response (TicksAndAsks keeper old new b more question now response)) (sym (asked (the_writer b.store) b.list question (moment_at b.list now))) t
+  as_asked t = subst (λ (o : HttpOutcome). HttpTurn keeper old new b more o response (TicksAndAsks keeper old new b more question now response)) (sym (asked b.store b.list question (moment_at b.list now))) t
 
   pub question_turn : (t : tick.Ticked) (found : Result Told NoMemory) → IsKeptOrStill t → Happens keeper old new b more Ticked now (said_tick t) (TickStep (numbers keeper old new) b now more t) → IfOk found (Heard keeper new question)
       → ((c : Book) (at : ℕ) → Stands keeper new c → IsEvent keeper new new c [] (Asked question) at (said_told found)) → IsTold (said_told found) response → AskTurn keeper old new b more (ask.Query question) now response

@@ -5,7 +5,6 @@ use Rattle.news_types.specs.declared.entry.Entry.{Entry}
 use Rattle.news_types.specs.History.{moment_at}
 use Rattle.news_types.specs.Books.{Book}
 use Rattle.news_io.specs.Keeper.{KeeperMeaning}
-use Rattle.feed_frames.specs.Writer.{the_writer}
 use Rattle.news_room.specs.Stands.{Stands}
 use Rattle.news_room.specs.declared.room.Room.{Room}
 use Rattle.desk_routes.specs.declared.ask.Asking.{Asking}
@@ -27,8 +26,8 @@ module _ {K : Type 0} (keeper : KeeperMeaning K) where
   pub asked_turn : (old new : Room K) (b : Book) (more : List Entry) (request : HttpRequest) (a : Asking) (now : ℕ) (response : Response) → asks request ≡ Ok a → AskingTurn keeper old new b more a now response → RequestTurn keeper old new b more request now response
   asked_turn old new b more request a now response read t =
       let E = RequestEvents keeper old new b more request now response in
-      let o : http (the_writer b.store) b.list request now ≡ asking_outcome (the_writer b.store) b.list a (moment_at b.list now) =
-      http_is (the_writer b.store) b.list request now ∙ ap (λ (r : Result Asking Refusal). read_outcome (the_writer b.store) b.list r (moment_at b.list now)) read ∙ read_ok (the_writer b.store) b.list a (moment_at b.list now) in
+      let o : http b.store b.list request now ≡ asking_outcome b.store b.list a (moment_at b.list now) =
+      http_is b.store b.list request now ∙ ap (λ (r : Result Asking Refusal). read_outcome b.store b.list r (moment_at b.list now)) read ∙ read_ok b.store b.list a (moment_at b.list now) in
       subst (λ (x : HttpOutcome). HttpTurn keeper old new b more x response E) (sym o)
       (record {
         stands = t.stands;
@@ -42,15 +41,15 @@ module _ {K : Type 0} (keeper : KeeperMeaning K) where
       → RequestTurn keeper room room b [] request now response
   refused_turn room b request refusal now response stands read told =
       let E = RequestEvents keeper room room b [] request now response in
-      let o : http (the_writer b.store) b.list request now ≡ unasked (refusal_response refusal) =
-      http_is (the_writer b.store) b.list request now ∙ ap (λ (r : Result Asking Refusal). read_outcome (the_writer b.store) b.list r (moment_at b.list now)) read ∙ read_err (the_writer b.store) b.list refusal (moment_at b.list now) in
+      let o : http b.store b.list request now ≡ unasked (refusal_response refusal) =
+      http_is b.store b.list request now ∙ ap (λ (r : Result Asking Refusal). read_outcome b.store b.list r (moment_at b.list now)) read ∙ read_err b.store b.list refusal (moment_at b.list now) in
       subst (λ (x : HttpOutcome). HttpTurn keeper room room b [] x response E) (sym o)
       (still_turn keeper room b (unasked (refusal_response refusal)) response E stands (comes_unasked keeper room (refusal_response refusal) response told) (inl (still keeper room)))
 
   -- there was no memory to read it
   pub unread_turn : (room : Room K) (b : Book) (request : HttpRequest) (now : ℕ) (response : Response) → Stands keeper room b → response ≡ notice_response notice.NoMemory → RequestTurn keeper room room b [] request now response
   unread_turn room b request now response stands is =
-      still_turn keeper room b (http (the_writer b.store) b.list request now) response (RequestEvents keeper room room b [] request now response) stands (comes_starved keeper room (http (the_writer b.store) b.list request now) response is) (inl (still keeper room))
+      still_turn keeper room b (http b.store b.list request now) response (RequestEvents keeper room room b [] request now response) stands (comes_starved keeper room (http b.store b.list request now) response is) (inl (still keeper room))
 
   -- what is read of a request that is refused
   pub read_refused : (room : Room K) (b : Book) (request : HttpRequest) (refusal : Refusal) (now : ℕ) (response : Response) → Stands keeper room b → IsSaid (asks request) (Err refusal) → IsToldAs (refusal_response refusal) response

@@ -28,6 +28,7 @@ use Rattle.archive_search.specs.Told.{archive_told}
 use Rattle.package_rules.specs.Composed.{Composed}
 use Rattle.package_rules.specs.Readers.{readers}
 use Rattle.ninjs_text.specs.Item.{ninjs}
+use Rattle.feed_frames.specs.Writer.{the_writer}
 use Rattle.news_room.specs.Beside.{Beside}
 use Rattle.news_room.specs.Steps.{entries}
 use Rattle.http_wire.specs.declared.request.HttpRequest.{HttpRequest}
@@ -88,6 +89,7 @@ ask_none the.Receipts caller path body = then_none (name_at 2 path) _ (path_none
 ask_none the.Ingest caller path body = then_none (name_at 2 path) _ (path_none _) (λ p. item_none p (ninjs body))
 ask_none the.Archive caller path body = line_none (archive_body body)
 ask_none the.Packages caller path body = package_none caller (package_body body)
+ask_none the.Contents caller path body = then_none (number_at 2 path) _ (path_none _) (λ publication. tt)
 
 route_none : (found : Option Route) → NoMemory (or_refused NoRoute found)
 route_none None = tt
@@ -140,28 +142,29 @@ flash_given : (write : Writer) (g : History) (m : ℕ) (caller : Bytes) (number 
 flash_given write g m caller number p [] = refl
 flash_given write g m caller number p (reader ∷ more) = answered_given (request_at g caller number (Flash p.story (reader ∷ more)) m).answer
 
-ask_given : (write : Writer) (h : History) (a : HttpAsk) (m : ℕ) → HasStatus (ask_outcome write h a m).response
+ask_given : (store : Bytes) (h : History) (a : HttpAsk) (m : ℕ) → HasStatus (ask_outcome store h a m).response
 unfolding ask_outcome package_outcome
-ask_given write h (ask.Request caller number command) m = answered_given (request_at h caller number command m).answer
-ask_given write h (ask.Query question) m = told_given (query_answer (frame_bytes_at write (ticked h m)) (ticked h m) question)
-ask_given write h (ask.Receipt subscriber n) m = answered_given (receipt_at h subscriber n m).answer
-ask_given write h (ask.Ingest provider incoming) m = answered_given (ingest_at h provider incoming m).answer
-ask_given write h (ask.Archive page query) m = found_given (archive_told (ticked h m) page query)
-ask_given write h (ask.Package caller number described) m =
-    flash_given write (ticked h m) m caller number (package_of described) (readers (ticked h m) (package_of described).members)
+ask_given store h (ask.Request caller number command) m = answered_given (request_at h caller number command m).answer
+ask_given store h (ask.Query question) m = told_given (query_answer (frame_bytes_at (the_writer store) (ticked h m)) (ticked h m) question)
+ask_given store h (ask.Receipt subscriber n) m = answered_given (receipt_at h subscriber n m).answer
+ask_given store h (ask.Ingest provider incoming) m = answered_given (ingest_at h provider incoming m).answer
+ask_given store h (ask.Archive page query) m = found_given (archive_told (ticked h m) page query)
+ask_given store h (ask.Package caller number described) m =
+    flash_given (the_writer store) (ticked h m) m caller number (package_of described) (readers (ticked h m) (package_of described).members)
+ask_given store h (ask.Contents publication) m = refl
 
 either_given : (b : Bool) (o p : HttpOutcome) → HasStatus o.response → HasStatus p.response → HasStatus (cond b o p).response
 either_given true o p one other = one
 either_given false o p one other = other
 
-read_given : (write : Writer) (h : History) (read : Result Asking Refusal) (m : ℕ) → NoMemory read → HasStatus (read_outcome write h read m).response
+read_given : (store : Bytes) (h : History) (read : Result Asking Refusal) (m : ℕ) → NoMemory read → HasStatus (read_outcome store h read m).response
 unfolding read_outcome asking_outcome
-read_given write h (Ok a) m none = either_given (may_ask h a.caller (right_of a.ask)) _ _ (ask_given write h a.ask m) refl
-read_given write h (Err refusal) m none = refusal_given refusal none
+read_given store h (Ok a) m none = either_given (may_ask h a.caller (right_of a.ask)) _ _ (ask_given store h a.ask m) refl
+read_given store h (Err refusal) m none = refusal_given refusal none
 
-pub outcome_given : (write : Writer) (h : History) (request : HttpRequest) (reading : ℕ) → HasStatus (http write h request reading).response
+pub outcome_given : (store : Bytes) (h : History) (request : HttpRequest) (reading : ℕ) → HasStatus (http store h request reading).response
 unfolding http
-outcome_given write h request reading = read_given write h (asks request) (moment_at h reading) (read_none request)
+outcome_given store h request reading = read_given store h (asks request) (moment_at h reading) (read_none request)
 
 -- ---- at most one entry follows, or of a package two: the first is its tick's
 
@@ -186,24 +189,25 @@ flash_few : (write : Writer) (waits : Bool) (g : History) (m : ℕ) (caller : By
 flash_few write waits g m caller number p [] = tick_few waits m None
 flash_few write waits g m caller number p (reader ∷ more) = tick_few waits m (request_at g caller number (Flash p.story (reader ∷ more)) m).more
 
-ask_few : (write : Writer) (h : History) (a : HttpAsk) (m : ℕ) → HasFew (is_package a) (ask_outcome write h a m).adds
+ask_few : (store : Bytes) (h : History) (a : HttpAsk) (m : ℕ) → HasFew (is_package a) (ask_outcome store h a m).adds
 unfolding ask_outcome package_outcome
-ask_few write h (ask.Request caller number command) m = entries_few false _
-ask_few write h (ask.Query question) m = entries_few false _
-ask_few write h (ask.Receipt subscriber n) m = entries_few false _
-ask_few write h (ask.Ingest provider incoming) m = entries_few false _
-ask_few write h (ask.Archive page query) m = entries_few false _
-ask_few write h (ask.Package caller number described) m =
-    flash_few write (some_waits h m) (ticked h m) m caller number (package_of described) (readers (ticked h m) (package_of described).members)
+ask_few store h (ask.Request caller number command) m = entries_few false _
+ask_few store h (ask.Query question) m = entries_few false _
+ask_few store h (ask.Receipt subscriber n) m = entries_few false _
+ask_few store h (ask.Ingest provider incoming) m = entries_few false _
+ask_few store h (ask.Archive page query) m = entries_few false _
+ask_few store h (ask.Package caller number described) m =
+    flash_few (the_writer store) (some_waits h m) (ticked h m) m caller number (package_of described) (readers (ticked h m) (package_of described).members)
+ask_few store h (ask.Contents publication) m = entries_few false _
 
 either_few : (package_asked b : Bool) (o p : HttpOutcome) → HasFew package_asked o.adds → HasFew package_asked p.adds → HasFew package_asked (cond b o p).adds
 either_few package_asked true o p one other = one
 either_few package_asked false o p one other = other
 
-read_few : (write : Writer) (h : History) (read : Result Asking Refusal) (m : ℕ) → HasFew (reads_package read) (read_outcome write h read m).adds
+read_few : (store : Bytes) (h : History) (read : Result Asking Refusal) (m : ℕ) → HasFew (reads_package read) (read_outcome store h read m).adds
 unfolding read_outcome asking_outcome
-read_few write h (Ok a) m = either_few (is_package a.ask) (may_ask h a.caller (right_of a.ask)) _ _ (ask_few write h a.ask m) tt
-read_few write h (Err refusal) m = tt
+read_few store h (Ok a) m = either_few (is_package a.ask) (may_ask h a.caller (right_of a.ask)) _ _ (ask_few store h a.ask m) tt
+read_few store h (Err refusal) m = tt
 
 -- before the last of them
 before_one : (b : Bool) (more : List Entry) (next : Entry) (rest : List Entry) → HasFew b (more ++ next ∷ rest) → IsBefore b more
@@ -267,9 +271,9 @@ tells b n o more response status few (starved rest is first given) =
       each = inr (inr s);
     }
 
-http_few : (write : Writer) (h : History) (request : HttpRequest) (reading : ℕ) → HasFew (asks_package request) (http write h request reading).adds
+http_few : (store : Bytes) (h : History) (request : HttpRequest) (reading : ℕ) → HasFew (asks_package request) (http store h request reading).adds
 unfolding http
-http_few write h request reading = read_few write h (asks request) (moment_at h reading)
+http_few store h request reading = read_few store h (asks request) (moment_at h reading)
 
-pub statuses_tell : (n : Beside) (write : Writer) (h : History) (request : HttpRequest) (reading : ℕ) (more : List Entry) (response : Response) → Comes n (http write h request reading) more response → IsToldBy (asks_package request) n (http write h request reading) more response
-statuses_tell n write h request reading more response came = tells (asks_package request) n (http write h request reading) more response (outcome_given write h request reading) (http_few write h request reading) came
+pub statuses_tell : (n : Beside) (store : Bytes) (h : History) (request : HttpRequest) (reading : ℕ) (more : List Entry) (response : Response) → Comes n (http store h request reading) more response → IsToldBy (asks_package request) n (http store h request reading) more response
+statuses_tell n store h request reading more response came = tells (asks_package request) n (http store h request reading) more response (outcome_given store h request reading) (http_few store h request reading) came

@@ -2,8 +2,8 @@
 use Rattle.std.specs.Prelude.{◌≡◌, ◌⊎◌, ◌==◌, ◌||◌, ℕ, Bool, true, false, IsTrue, List, [], ◌∷◌, ◌++◌, Result, Ok, Err}
 use Rattle.news_types.specs.declared.entry.Entry.{Entry}
 use Rattle.news_types.specs.declared.entry.Act.TheVariants.{Advance}
+use Rattle.news_types.specs.Names.{Bytes}
 use Rattle.news_types.specs.History.{History}
-use Rattle.news_types.specs.Frames.{Writer}
 use Rattle.news_room.specs.Beside.{Beside}
 use Rattle.news_room.specs.Stands.{limit_for}
 use Rattle.news_room.specs.Steps.{Given, Refused, Failed}
@@ -22,7 +22,7 @@ is_given status = status == 200 || status == 400 || status == 403 || status == 4
 
 -- an outcome has one of these
 abbrev pub OutcomesAreGiven : Type 0
-OutcomesAreGiven = (write : Writer) (h : History) (request : HttpRequest) (reading : ℕ) → IsTrue (is_given (http write h request reading).response.status)
+OutcomesAreGiven = (store : Bytes) (h : History) (request : HttpRequest) (reading : ℕ) → IsTrue (is_given (http store h request reading).response.status)
 
 -- ---- packages, of which two entries follow: the tick's and the flash
 
@@ -74,4 +74,4 @@ pub record IsToldBy (package_asked : Bool) (n : Beside) (o : HttpOutcome) (more 
   pub each : (IsTrue (is_given response.status) ⊎ (response.status ≡ 508)) ⊎ ((response.status ≡ 503) ⊎ (response.status ≡ 507))
 
 abbrev pub StatusesTell : Type 0
-StatusesTell = (n : Beside) (write : Writer) (h : History) (request : HttpRequest) (reading : ℕ) (more : List Entry) (response : Response) → Comes n (http write h request reading) more response → IsToldBy (asks_package request) n (http write h request reading) more response
+StatusesTell = (n : Beside) (store : Bytes) (h : History) (request : HttpRequest) (reading : ℕ) (more : List Entry) (response : Response) → Comes n (http store h request reading) more response → IsToldBy (asks_package request) n (http store h request reading) more response

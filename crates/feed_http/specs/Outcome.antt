@@ -6,13 +6,14 @@ use Rattle.news_types.specs.Names.{Bytes}
 use Rattle.news_types.specs.History.{History, moment_at}
 use Rattle.news_types.specs.Frames.{Writer}
 use Rattle.news_types.specs.Calls.{Call, Requested, Ingested, Receipted, Ticked, Asked, Answer, Replied, Tells, Full, Fault, Memory, follow, ticked, answer}
+use Rattle.feed_frames.specs.Writer.{the_writer}
 use Rattle.news_room.specs.Steps.{entries, tick_entries}
 use Rattle.archive_search.specs.declared.told.Told as archive
 use Rattle.archive_search.specs.declared.told.Told.TheVariants.{Found, Refused}
 use Rattle.archive_search.specs.Told.{archive_told}
 use Rattle.package_rules.specs.Composed.{Composed, composite}
 use Rattle.package_rules.specs.Readers.{readers}
-use Rattle.package_rules.specs.Report.{no_readers_text}
+use Rattle.package_rules.specs.Report.{contents_object, no_readers_text}
 use Rattle.desk_lines.specs.declared.lines.Described.{Described}
 use Rattle.http_wire.specs.declared.request.HttpRequest.{HttpRequest}
 use Rattle.desk_routes.specs.declared.ask.HttpAsk.{HttpAsk}
@@ -46,6 +47,14 @@ response_to _ = bare 200
 abbrev pub archive_response : archive.Told → Response
 archive_response (Found bytes) = told_as 200 bytes
 archive_response (Refused bytes) = told_as 400 bytes
+
+-- the same of this page of this query, at a list
+abbrev pub search_response : ℕ → Bytes → History → Response
+search_response page query h = archive_response (archive_told h page query)
+
+-- what a publication holds, in the store of this identifier, at a list
+abbrev pub contents_response : Bytes → ℕ → History → Response
+contents_response store publication h = told_as 200 (contents_object h store publication)
 
 -- a package of which nobody has every member, at a list of so many entries
 abbrev pub no_readers_response : ℕ → Response
@@ -82,32 +91,39 @@ package_outcome write g m caller number p = flash_outcome write g m caller numbe
 abbrev pub with_tick : History → ℕ → HttpOutcome → HttpOutcome
 with_tick h m o = record { response = o.response; adds = tick_entries h m ++ o.adds }
 
--- A question, a search of the archive and a package come behind a tick: they are answered at the list which that leaves.
-unfoldable pub ask_outcome : Writer → History → HttpAsk → ℕ → HttpOutcome
-ask_outcome write h (ask.Request caller number command) m = call_outcome write h (Requested caller number command) m
-ask_outcome write h (ask.Query question) m = record { response = response_to (answer write (ticked h m) (Asked question) m); adds = entries (follow h Ticked m) }
-ask_outcome write h (ask.Receipt subscriber n) m = call_outcome write h (Receipted subscriber n) m
-ask_outcome write h (ask.Ingest provider incoming) m = call_outcome write h (Ingested provider incoming) m
-ask_outcome write h (ask.Archive page query) m = record { response = archive_response (archive_told (ticked h m) page query); adds = tick_entries h m }
-ask_outcome write h (ask.Package caller number described) m = with_tick h m (package_outcome write (ticked h m) m caller number (package_of described))
+-- what is told of the list behind a tick
+abbrev pub told_behind : History → ℕ → (History → Response) → HttpOutcome
+told_behind h m tell = record { response = tell (ticked h m); adds = tick_entries h m }
+
+-- A question, a search of the archive, what a publication holds and a package come behind a tick: they are answered at the list which
+-- that leaves. Publications are written as those of this store are.
+
+unfoldable pub ask_outcome : Bytes → History → HttpAsk → ℕ → HttpOutcome
+ask_outcome store h (ask.Request caller number command) m = call_outcome (the_writer store) h (Requested caller number command) m
+ask_outcome store h (ask.Query question) m = record { response = response_to (answer (the_writer store) (ticked h m) (Asked question) m); adds = entries (follow h Ticked m) }
+ask_outcome store h (ask.Receipt subscriber n) m = call_outcome (the_writer store) h (Receipted subscriber n) m
+ask_outcome store h (ask.Ingest provider incoming) m = call_outcome (the_writer store) h (Ingested provider incoming) m
+ask_outcome store h (ask.Archive page query) m = told_behind h m (search_response page query)
+ask_outcome store h (ask.Package caller number described) m = with_tick h m (package_outcome (the_writer store) (ticked h m) m caller number (package_of described))
+ask_outcome store h (ask.Contents publication) m = told_behind h m (contents_response store publication)
 
 -- ---- requests
 
 -- whether the caller has the right is known by the list as it is, before any tick
-unfoldable pub asking_outcome : Writer → History → Asking → ℕ → HttpOutcome
-asking_outcome write h a m = if may_ask h a.caller (right_of a.ask) then ask_outcome write h a.ask m else unasked (notice_response notice.Forbidden)
+unfoldable pub asking_outcome : Bytes → History → Asking → ℕ → HttpOutcome
+asking_outcome store h a m = if may_ask h a.caller (right_of a.ask) then ask_outcome store h a.ask m else unasked (notice_response notice.Forbidden)
 
-unfoldable pub read_outcome : Writer → History → Result Asking Refusal → ℕ → HttpOutcome
-read_outcome write h (Ok a) m = asking_outcome write h a m
-read_outcome write h (Err refusal) m = unasked (refusal_response refusal)
+unfoldable pub read_outcome : Bytes → History → Result Asking Refusal → ℕ → HttpOutcome
+read_outcome store h (Ok a) m = asking_outcome store h a m
+read_outcome store h (Err refusal) m = unasked (refusal_response refusal)
 
 -- what a request asks, or why it is refused before anything is asked
 unfoldable pub asks : HttpRequest → Result Asking Refusal
 asks request = asking request
 
--- the response to a request at a list and a reading of the clock, and the entries that follow
-unfoldable pub http : Writer → History → HttpRequest → ℕ → HttpOutcome
-http write h request reading = read_outcome write h (asks request) (moment_at h reading)
+-- the response to a request, in the store of this identifier, at a list and a reading of the clock, and the entries that follow
+unfoldable pub http : Bytes → History → HttpRequest → ℕ → HttpOutcome
+http store h request reading = read_outcome store h (asks request) (moment_at h reading)
 
 -- ---- what was kept
 

@@ -4,11 +4,10 @@ use Rattle.news_types.specs.declared.entry.Entry.{Entry}
 use Rattle.news_types.specs.declared.query.Query.{Query}
 use Rattle.news_types.specs.declared.Memory.{Memory as NoMemory}
 use Rattle.news_types.specs.Names.{Bytes}
-use Rattle.news_types.specs.History.{moment_at, last_stop}
+use Rattle.news_types.specs.History.{History, moment_at, last_stop}
 use Rattle.news_types.specs.Books.{Book, onto}
 use Rattle.news_types.specs.Calls.{Call, Requested, Ingested, Receipted, Ticked, Asked, Answer, Full, Fault}
 use Rattle.news_io.specs.Keeper.{KeeperMeaning}
-use Rattle.feed_frames.specs.Writer.{the_writer}
 use Rattle.news_room.specs.Beside.{Beside}
 use Rattle.news_room.specs.Stands.{Stands, limit_for, numbers}
 use Rattle.news_room.specs.Steps.{Given, Refused, Failed, ToldStep}
@@ -22,12 +21,11 @@ use Rattle.desk_routes.specs.declared.response.Response.{Response}
 use Rattle.desk_routes.specs.declared.response.Notice.TheVariants as notice
 use Rattle.desk_routes.specs.Responses.{reply_response, denial_response, notice_response}
 use Rattle.archive_search.specs.declared.told.Told as archive
-use Rattle.archive_search.specs.Told.{archive_told}
 use Rattle.package_rules.specs.declared.publish.Packaged.{Packaged}
 use Rattle.package_rules.specs.Composed.{Composed}
 use Rattle.package_rules.specs.Publishing.{flash_of}
 use Rattle.feed_http.specs.declared.answers.HttpAnswer.{HttpAnswer}
-use Rattle.feed_http.specs.Outcome.{HttpOutcome, archive_response, no_readers_response, package_of, response_to, ask_outcome, asking_outcome, asks, http, stop_behind}
+use Rattle.feed_http.specs.Outcome.{HttpOutcome, archive_response, search_response, contents_response, no_readers_response, package_of, response_to, ask_outcome, asking_outcome, asks, http, stop_behind}
 
 -- ---- how much of an outcome came
 
@@ -72,11 +70,11 @@ tells_failure response = response.status == 503
 pub record IsRead (request : HttpRequest) (a : Asking) : Type 0 where
   pub is : asks request ≡ Ok a
 
--- the archive at a list, behind a tick that was answered so: where the tick was refused nothing is searched
-abbrev pub FindsBehind : Book → ℕ → Bytes → Answer → Response → Type 0
-FindsBehind b page query Full response = response ≡ response_to Full
-FindsBehind b page query Fault response = response ≡ response_to Fault
-FindsBehind b page query answer response = IsToldAs (archive_response (archive_told b.list page query)) response
+-- what is told of a list behind a tick that was answered so: where the tick was refused nothing is told of it
+abbrev pub TellsBehind : (History → Response) → History → Answer → Response → Type 0
+TellsBehind tell h Full response = response ≡ response_to Full
+TellsBehind tell h Fault response = response ≡ response_to Fault
+TellsBehind tell h answer response = IsToldAs (tell h) response
 
 module _ {K : Type 0} (keeper : KeeperMeaning K) where
   -- ---- the events of a turn
@@ -99,11 +97,11 @@ module _ {K : Type 0} (keeper : KeeperMeaning K) where
     pub event : IsEvent keeper old new b more Ticked now answer
     pub asks : AsksBehind new (onto more b) question now answer response
 
-  -- a tick, and then a search of the list
-  pub record TicksAndFinds (old new : Room K) (b : Book) (more : List Entry) (page : ℕ) (query : Bytes) (now : ℕ) (response : Response) : Type 0 where
+  -- a tick, and then what is told of the list: a search of it, or what a publication holds
+  pub record TicksAndTells (old new : Room K) (b : Book) (more : List Entry) (tell : History → Response) (now : ℕ) (response : Response) : Type 0 where
     pub answer : Answer
     pub event : IsEvent keeper old new b more Ticked now answer
-    pub finds : FindsBehind (onto more b) page query answer response
+    pub tells : TellsBehind tell (onto more b).list answer response
 
   -- nothing was asked of the room
   pub record IsStill (old new : Room K) (more : List Entry) : Type 0 where
@@ -140,8 +138,9 @@ module _ {K : Type 0} (keeper : KeeperMeaning K) where
   AskEvents old new b more (ask.Query question) now response = TicksAndAsks old new b more question now response
   AskEvents old new b more (ask.Receipt subscriber n) now response = Calls old new b more (Receipted subscriber n) now response
   AskEvents old new b more (ask.Ingest provider incoming) now response = Calls old new b more (Ingested provider incoming) now response
-  AskEvents old new b more (ask.Archive page query) now response = TicksAndFinds old new b more page query now response
+  AskEvents old new b more (ask.Archive page query) now response = TicksAndTells old new b more (search_response page query) now response
   AskEvents old new b more (ask.Package caller number described) now response = PackageEvents old new b more caller number (package_of described) now response
+  AskEvents old new b more (ask.Contents publication) now response = TicksAndTells old new b more (contents_response b.store publication) now response
 
   -- what a caller asks, or nothing was asked of the room
   abbrev pub AskingEvents : Room K → Room K → Book → List Entry → Asking → ℕ → Response → Type 0
@@ -164,16 +163,16 @@ module _ {K : Type 0} (keeper : KeeperMeaning K) where
   -- the turn of what is asked
   abbrev pub AskTurn : Room K → Room K → Book → List Entry → HttpAsk → ℕ → Response → Type 0
   AskTurn old new b more a now response =
-      HttpTurn old new b more (ask_outcome (the_writer b.store) b.list a (moment_at b.list now)) response (AskEvents old new b more a now response)
+      HttpTurn old new b more (ask_outcome b.store b.list a (moment_at b.list now)) response (AskEvents old new b more a now response)
 
   abbrev pub AskingTurn : Room K → Room K → Book → List Entry → Asking → ℕ → Response → Type 0
   AskingTurn old new b more a now response =
-      HttpTurn old new b more (asking_outcome (the_writer b.store) b.list a (moment_at b.list now)) response (AskingEvents old new b more a now response)
+      HttpTurn old new b more (asking_outcome b.store b.list a (moment_at b.list now)) response (AskingEvents old new b more a now response)
 
   -- the turn of a request at a reading of the clock
   abbrev pub RequestTurn : Room K → Room K → Book → List Entry → HttpRequest → ℕ → Response → Type 0
   RequestTurn old new b more request now response =
-      HttpTurn old new b more (http (the_writer b.store) b.list request now) response (RequestEvents old new b more request now response)
+      HttpTurn old new b more (http b.store b.list request now) response (RequestEvents old new b more request now response)
 
   -- what a request is answered in its turn, and the stop that the turn kept
   pub record IsAnswer (old new : Room K) (b : Book) (more : List Entry) (request : HttpRequest) (now : ℕ) (answer : HttpAnswer) : Type 0 where

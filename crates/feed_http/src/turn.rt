@@ -9,7 +9,7 @@ ghost use Rattle.package_members.specs.Members.{make_package};
 ghost use Rattle.desk_routes.specs.declared.ask.HttpAsk.TheVariants as asked;
 ghost use Rattle.desk_routes.specs.Asking.{FitsAsk};
 ghost use Rattle.desk_routes.specs.Rights.{right_of, may_ask};
-ghost use Rattle.feed_http.specs.Outcome.{package_of, stop_behind};
+ghost use Rattle.feed_http.specs.Outcome.{contents_response, package_of, stop_behind};
 ghost use Rattle.feed_http.specs.Turn.{AskTurn, AskingTurn, RequestTurn, IsAnswered};
 
 use crate::answers::HttpAnswer;
@@ -20,12 +20,13 @@ use archive_search::tell_archive;
 use desk_lines::Described;
 use desk_routes::{
     Asking, Gate, HttpAsk, Notice, Response, Routes, allows, gate_of, notify, refuse, right_of,
+    told_as,
 };
 use http_wire::HttpRequest;
 use news_io::Keeper;
 use news_room::{Room, Ticked};
 use news_types::{Command, Incoming, Memory, Name, Query, Text};
-use package_rules::{Package, publish_package};
+use package_rules::{Package, contents_object, publish_package};
 use std::alloc::Global;
 
 /// Releases what waits, and then answers a question.
@@ -115,6 +116,39 @@ fn answer_search<K: Keeper>(
     }
 }
 
+/// The response that tells what a publication of a room holds.
+fn respond_contents<K: Keeper>(
+    alloc: Global,
+    room: &Room<K>,
+    publication: u32,
+) -> Result<Response, Memory>
+    requires { SomeBook K.keeper room.now }
+    ensures { IfOk result (λ response. (b : Book) → Stands K.keeper room.now b → response ≡ contents_response b.store publication b.list) }
+{
+    let held = contents_object(alloc, room, room.store(), publication)?;
+    Ok(told_as(200, held))
+}
+
+/// Releases what waits, and then tells what a publication holds.
+#[tactic(none)]
+fn answer_contents<K: Keeper>(
+    alloc: Global,
+    newsroom: &mut Room<K>,
+    now: u64,
+    publication: u32,
+) -> Response
+    requires { SomeBook K.keeper newsroom.old }
+    ensures { (more : List Entry) × ((b : Book) → Stands K.keeper newsroom.old b → AskTurn K.keeper newsroom.old newsroom.new b more (asked.Contents publication) now result) }
+{
+    match newsroom.tick(now) {
+        Ticked::Kept { .. } | Ticked::Still => {
+            or_no_memory(alloc, respond_contents(alloc, newsroom, publication))
+        }
+        Ticked::Fault => notify(alloc, Notice::Fault),
+        Ticked::Full { .. } => notify(alloc, Notice::Full),
+    }
+}
+
 /// The package that is described.
 fn described_package(alloc: Global, described: Described) -> Result<Package, Memory>
     requires fits { FitsStory described.story }
@@ -175,6 +209,7 @@ fn answer_ask<K: Keeper>(alloc: Global, room: &mut Room<K>, now: u64, ask: HttpA
             number,
             described,
         } => answer_package(alloc, room, now, caller, number, described),
+        HttpAsk::Contents { publication } => answer_contents(alloc, room, now, publication),
     }
 }
 
@@ -253,8 +288,9 @@ fn stop_behind(before: u64, now: u64) -> Option<u64>
 /// Answers a request in one turn of a room, at a reading of the clock, in seconds.
 ///
 /// What the request is refused for up to its caller's right is decided by the list as it is, and keeps nothing. A question, a
-/// search of the archive and a package come behind a tick; where that is refused, so is what is asked. Where there is no memory
-/// the status is 507, without a body; then none or all of the entries are kept that the request has, or that of a package's tick.
+/// search of the archive, what a publication holds and a package come behind a tick; where that is refused, so is what is asked.
+/// Where there is no memory the status is 507, without a body; then none or all of the entries are kept that the request has, or
+/// that of a package's tick.
 #[tactic(none)]
 pub fn answer_one<K: Keeper>(
     routes: &Routes,

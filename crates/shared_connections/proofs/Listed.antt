@@ -4,6 +4,7 @@ use Rattle.std.proofs.lemmas.Bool.{false≢true}
 use Rattle.news_types.specs.declared.entry.Entry.{Entry}
 use Rattle.news_types.specs.declared.query.Query.{Query}
 use Rattle.news_types.specs.Names.{Bytes}
+use Rattle.news_types.specs.History.{History}
 use Rattle.news_types.specs.Books.{Book, onto}
 use Rattle.news_types.specs.Calls as call
 use Rattle.news_types.specs.Calls.{Call, Asked, Answer}
@@ -20,25 +21,13 @@ use Rattle.desk_routes.specs.declared.response.Response.{Response}
 use Rattle.feed_http.specs.declared.answers.HttpAnswer.{HttpAnswer}
 use Rattle.package_rules.specs.Composed.{Composed}
 use Rattle.package_rules.specs.Publishing.{flash_of}
-use Rattle.feed_http.specs.Outcome.{package_of}
-use Rattle.feed_http.specs.Turn.{Calls, AsksBehind, TicksAndAsks, FindsBehind, TicksAndFinds, FlashEvents, FlashesBehind, PackageEvents, AskEvents, RequestEvents, IsAnswer, IsAnswered}
-use Rattle.shared_connections.specs.Turns.{IsListEvent, CallsList, AsksListBehind, TicksAndAsksList, TicksAndFindsList, FlashListEvents, FlashesListBehind, PackageListEvents, AskListEvents, RequestListEvents, IsAnsweredIn}
+use Rattle.feed_http.specs.Outcome.{search_response, contents_response, package_of}
+use Rattle.feed_http.specs.Turn.{Calls, AsksBehind, TicksAndAsks, TicksAndTells, FlashEvents, FlashesBehind, PackageEvents, AskEvents, RequestEvents, IsAnswer, IsAnswered}
+use Rattle.shared_connections.specs.Turns.{IsListEvent, CallsList, AsksListBehind, TicksAndAsksList, TicksAndTellsList, FlashListEvents, FlashesListBehind, PackageListEvents, AskListEvents, RequestListEvents, IsAnsweredIn}
 
 -- the book whose keeper need not tell it
 abbrev untold : Book → Book
 untold b = record { store = b.store; told = false; list = b.list }
-
--- what was found tells nothing of the keeper
-found_listed : (b : Book) (page : ℕ) (query : Bytes) (answer : Answer) (response : Response) → FindsBehind (untold b) page query answer response → FindsBehind b page query answer response
-found_listed b page query call.Full response e = e
-found_listed b page query call.Fault response e = e
-found_listed b page query (call.Replied answered) response e = e
-found_listed b page query (call.Kept n) response e = e
-found_listed b page query call.Still response e = e
-found_listed b page query (call.Job s k frame n) response e = e
-found_listed b page query (call.Idle next) response e = e
-found_listed b page query (call.Tells told) response e = e
-found_listed b page query call.Memory response e = e
 
 module _ {K : Type 0} (keeper : KeeperMeaning K) where
   stands_untold : (r : Room K) (b : Book) → Stands keeper r b → Stands keeper r (untold b)
@@ -76,11 +65,11 @@ module _ {K : Type 0} (keeper : KeeperMeaning K) where
     asks = behind_listed new (onto more b) question now e.answer response e.asks;
   }
 
-  finds_listed : (old new : Room K) (b : Book) (more : List Entry) (page : ℕ) (query : Bytes) (now : ℕ) (response : Response) → TicksAndFinds keeper old new (untold b) more page query now response → TicksAndFindsList b more page query now response
-  finds_listed old new b more page query now response e = record {
+  tells_listed : (old new : Room K) (b : Book) (more : List Entry) (tell : History → Response) (now : ℕ) (response : Response) → TicksAndTells keeper old new (untold b) more tell now response → TicksAndTellsList b more tell now response
+  tells_listed old new b more tell now response e = record {
     answer = e.answer;
     event = event_listed old new b more call.Ticked now e.answer e.event;
-    finds = found_listed (onto more b) page query e.answer response e.finds;
+    tells = e.tells;
   }
 
   flash_listed : (old new : Room K) (b : Book) (more : List Entry) (caller : Bytes) (number : ℕ) (p : Composed) (now : ℕ) (response : Response) → FlashEvents keeper old new (untold b) more caller number p now response → FlashListEvents b more caller number p now response
@@ -115,8 +104,9 @@ module _ {K : Type 0} (keeper : KeeperMeaning K) where
   asks_listed old new b more (ask.Query question) now response e = ticks_listed old new b more question now response e
   asks_listed old new b more (ask.Receipt subscriber n) now response e = calls_listed old new b more (call.Receipted subscriber n) now response e
   asks_listed old new b more (ask.Ingest provider incoming) now response e = calls_listed old new b more (call.Ingested provider incoming) now response e
-  asks_listed old new b more (ask.Archive page query) now response e = finds_listed old new b more page query now response e
+  asks_listed old new b more (ask.Archive page query) now response e = tells_listed old new b more (search_response page query) now response e
   asks_listed old new b more (ask.Package caller number described) now response e = package_listed old new b more caller number (package_of described) now response e
+  asks_listed old new b more (ask.Contents publication) now response e = tells_listed old new b more (contents_response b.store publication) now response e
 
   request_listed : (old new : Room K) (b : Book) (more : List Entry) (request : HttpRequest) (now : ℕ) (response : Response) → RequestEvents keeper old new (untold b) more request now response → RequestListEvents b more request now response
   request_listed old new b more request now response (inl still) = inl still.none

@@ -3,7 +3,7 @@ use Rattle.std.specs.Prelude.{◌≡◌, ◌⊎◌, ℕ, List, [], ◌++◌}
 use Rattle.news_types.specs.declared.entry.Entry.{Entry}
 use Rattle.news_types.specs.declared.query.Query.{Query}
 use Rattle.news_types.specs.Names.{Bytes}
-use Rattle.news_types.specs.History.{last_stop}
+use Rattle.news_types.specs.History.{History, last_stop}
 use Rattle.news_types.specs.Books.{Book, onto}
 use Rattle.news_types.specs.Calls.{Call, Requested, Ingested, Receipted, Ticked, Asked, Answer, Full, Fault, Fate}
 use Rattle.news_types.specs.Server.{Server, called, call_answer}
@@ -18,8 +18,8 @@ use Rattle.desk_routes.specs.declared.response.Response.{Response}
 use Rattle.package_rules.specs.Composed.{Composed}
 use Rattle.package_rules.specs.Publishing.{flash_of}
 use Rattle.feed_http.specs.declared.answers.HttpAnswer.{HttpAnswer}
-use Rattle.feed_http.specs.Outcome.{package_of, response_to, http, stop_behind}
-use Rattle.feed_http.specs.Turn.{IsTold, Comes, IsRead, FindsBehind}
+use Rattle.feed_http.specs.Outcome.{search_response, contents_response, package_of, response_to, http, stop_behind}
+use Rattle.feed_http.specs.Turn.{IsTold, Comes, IsRead, TellsBehind}
 
 -- ---- the events of a turn
 
@@ -48,11 +48,11 @@ pub record TicksAndAsksList (b : Book) (more : List Entry) (question : Query) (n
   pub event : IsListEvent b more Ticked now answer
   pub asks : AsksListBehind (onto more b) question now answer response
 
--- a tick, and then a search of the list
-pub record TicksAndFindsList (b : Book) (more : List Entry) (page : ℕ) (query : Bytes) (now : ℕ) (response : Response) : Type 0 where
+-- a tick, and then what is told of the list: a search of it, or what a publication holds
+pub record TicksAndTellsList (b : Book) (more : List Entry) (tell : History → Response) (now : ℕ) (response : Response) : Type 0 where
   pub answer : Answer
   pub event : IsListEvent b more Ticked now answer
-  pub finds : FindsBehind (onto more b) page query answer response
+  pub tells : TellsBehind tell (onto more b).list answer response
 
 -- the flash of a package to its readers; or nothing was asked: nobody has every member, or there was no memory
 abbrev pub FlashListEvents : Book → List Entry → Bytes → ℕ → Composed → ℕ → Response → Type 0
@@ -83,8 +83,9 @@ AskListEvents b more (ask.Request caller number command) now response = CallsLis
 AskListEvents b more (ask.Query question) now response = TicksAndAsksList b more question now response
 AskListEvents b more (ask.Receipt subscriber n) now response = CallsList b more (Receipted subscriber n) now response
 AskListEvents b more (ask.Ingest provider incoming) now response = CallsList b more (Ingested provider incoming) now response
-AskListEvents b more (ask.Archive page query) now response = TicksAndFindsList b more page query now response
+AskListEvents b more (ask.Archive page query) now response = TicksAndTellsList b more (search_response page query) now response
 AskListEvents b more (ask.Package caller number described) now response = PackageListEvents b more caller number (package_of described) now response
+AskListEvents b more (ask.Contents publication) now response = TicksAndTellsList b more (contents_response b.store publication) now response
 
 -- the events of what the request asks, or nothing was asked
 abbrev pub RequestListEvents : Book → List Entry → HttpRequest → ℕ → Response → Type 0
@@ -102,6 +103,6 @@ pub record IsAnsweredIn (before after : At) (request : HttpRequest) (now : ℕ) 
   -- the entries that the turn kept, oldest first
   pub more : List Entry
   pub book : after.book ≡ onto more before.book
-  pub came : Comes (of_turn before after) (http (the_writer before.book.store) before.book.list request now) more answer.response
+  pub came : Comes (of_turn before after) (http before.book.store before.book.list request now) more answer.response
   pub events : RequestListEvents before.book more request now answer.response
   pub stop : answer.stop ≡ stop_behind (last_stop before.book.list) (last_stop after.book.list)

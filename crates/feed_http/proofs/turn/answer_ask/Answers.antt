@@ -49,3 +49,9 @@ returns-in-Archive g c = asked_as g.K.Keeper.keeper c.args.room.now c.answer_sea
 
 pub returns-in-Package : goal.returns-in-Package
 returns-in-Package g c = asked_as g.K.Keeper.keeper c.args.room.now c.answer_package.new.room c.args.ask (ask.Package c.in-Package.caller c.in-Package.number c.in-Package.described) c.args.now c.answer_package.result c.in-Package.is c.answer_package.ensures
+
+pub answer_contents-requires : goal.answer_contents-requires
+answer_contents-requires g c = c.requires.stands
+
+pub returns-in-Contents : goal.returns-in-Contents
+returns-in-Contents g c = asked_as g.K.Keeper.keeper c.args.room.now c.answer_contents.new.newsroom c.args.ask (ask.Contents c.in-Contents.publication) c.args.now c.answer_contents.result c.in-Contents.is c.answer_contents.ensures

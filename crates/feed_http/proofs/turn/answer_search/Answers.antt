@@ -1,5 +1,5 @@
 use Rattle.news_types.specs.Books.{onto}
-use Rattle.feed_http.proofs.Searches.{found_for, search_turn, search_failed, search_refused}
+use Rattle.feed_http.proofs.Tellings.{found_for, search_turn, search_failed, search_refused}
 use Rattle.feed_http.proofs.turn.answer_search.Goals as goal
 
 pub tick-requires : goal.tick-requires
