@@ -594,23 +594,17 @@ PACKAGE_TICKS = [
         package("admin", 7, MAIN, done(8, 2, 2, 1010, word="repeat"), headline="Pack"),
         BOTH,
     ),
-    Connection(
-        "the log fails at the tick of a package",
-        "Closed",
-        *WAITING_MEMBER,
-        package("admin", 7, MAIN, bare(503), headline="Pack"),
-        package("admin", 7, MAIN, done(8, 2, 2, 1011), headline="Pack"),
-        BOTH,
-        failing=7,
-    ),
-    Connection(
-        "the log fails at a package behind its tick",
-        "Closed",
-        *WAITING_MEMBER,
-        package("admin", 7, MAIN, bare(503), headline="Pack"),
-        package("admin", 7, MAIN, done(8, 2, 2, 1011), headline="Pack"),
-        BOTH,
-        failing=8,
+    *(
+        Connection(
+            title,
+            "Closed",
+            *WAITING_MEMBER,
+            package("admin", 7, MAIN, bare(503), headline="Pack"),
+            package("admin", 7, MAIN, done(8, 2, 2, 1011), headline="Pack"),
+            BOTH,
+            failing=entry,
+        )
+        for title, entry in (("the log fails at the tick of a package", 7), ("the log fails at a package behind its tick", 8))
     ),
     Connection(
         "the tick of a package has no room",
