@@ -5,10 +5,10 @@ use Rattle.std.specs.Prelude.{IsUtf8}
 use mathlib.Core.Bool.{true≢false}
 use Rattle.std.proofs.lemmas.Bool.Decides.{nat_tests, Decides-eqb}
 use Rattle.byte_formats.specs.Spelling as spelled
-use Rattle.byte_formats.specs.Spelling.{IsText}
+use Rattle.byte_formats.specs.Spelling.{IsText, is_empty}
 use Rattle.byte_formats.specs.Format.{Format, ◌>>=◌, upto}
 use Rattle.byte_formats.specs.Fields.{text}
-use Rattle.byte_formats.specs.Except.{except, is_zero, is_empty, from_one, from_one_at, some_text, some_text_at}
+use Rattle.byte_formats.specs.Except.{except, is_zero, from_one, from_one_at, some_text, some_text_at}
 use Rattle.byte_formats.proofs.Laws.{IsBytes, Lawful, Faults, bind_ok, bind_err, ok_is, not_both, same_tails}
 use Rattle.byte_formats.proofs.Numbers.{wide32, upto_lawful}
 use Rattle.byte_formats.proofs.Texts.{text_lawful, scan_utf8}

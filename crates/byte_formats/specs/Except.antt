@@ -1,7 +1,8 @@
 -- Formats without one of their values.
-use Rattle.std.specs.Prelude.{ℕ, suc, List, [], ◌∷◌, length, Bool, true, false, Result, Ok, Err, ◌==◌, if◌then◌else◌}
+use Rattle.std.specs.Prelude.{ℕ, suc, List, length, Bool, Result, Ok, Err, ◌==◌, if◌then◌else◌}
 use Rattle.std.specs.Int.{Width}
 use Rattle.byte_formats.specs.Spelling as spelled
+use Rattle.byte_formats.specs.Spelling.{is_empty}
 use Rattle.byte_formats.specs.Format.{Format, ◌>>=◌, upto}
 use Rattle.byte_formats.specs.Fields.{text}
 
@@ -14,10 +15,6 @@ except F is_it = record {
 
 abbrev pub is_zero : ℕ → Bool
 is_zero n = n == 0
-
-abbrev pub is_empty : List ℕ → Bool
-is_empty [] = true
-is_empty (b ∷ bytes) = false
 
 -- a number of this width from 1 up to most
 unfoldable pub from_one_at : Width → ℕ → List ℕ → Result (ℕ × List ℕ) ℕ

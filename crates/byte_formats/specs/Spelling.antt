@@ -12,6 +12,10 @@ x & y = x ++ y
 abbrev pub byte : ℕ → List ℕ
 byte b = b ∷ []
 
+abbrev pub is_empty : List ℕ → Bool
+is_empty [] = true
+is_empty (b ∷ bytes) = false
+
 abbrev pub u16 : ℕ → List ℕ
 u16 n = to_be_bytes w16 n
 

@@ -14,8 +14,8 @@ use Rattle.news_types.specs.declared.rules.Statement.{Statement}
 use Rattle.news_types.specs.declared.rules.Rule.{Rule}
 use Rattle.news_types.specs.declared.command.Command.{Command}
 use Rattle.news_types.specs.declared.command.Command.TheVariants.{AddUser, SetUser, AddDesk, AddStage, SetMember, AddCondition, AddFilter, SetFilter, SetBlock, AddProduct, SetProduct, AddSubscriber, SetSubscriber, Resume, AddScheme, AddProvider, Create, Flash, Lock, Unlock, BreakLock, Edit, MoveTo, Spike, Unspike, Fetch, Publish, Correct, Kill, Recall, Deschedule, Stop}
-use Rattle.byte_formats.specs.Spelling.{IsText, IsList, byte, u32, name as name_bytes, list as list_bytes}
-use Rattle.byte_formats.specs.Except.{is_empty, from_one}
+use Rattle.byte_formats.specs.Spelling.{IsText, IsList, byte, u32, name as name_bytes, list as list_bytes, is_empty}
+use Rattle.byte_formats.specs.Except.{from_one}
 use Rattle.byte_formats.proofs.Except.{from_one_lawful}
 use Rattle.byte_formats.proofs.Numbers.{wide32, upto_lawful}
 use Rattle.byte_formats.specs.Format.{◌>>=◌, chain, nothing, ranged, upto}
@@ -25,12 +25,12 @@ use Rattle.byte_formats.proofs.Fields.{nothing_lawful, ranged_lawful}
 use Rattle.byte_formats.proofs.Texts.{text_lawful}
 use Rattle.byte_formats.proofs.Options.{list_lawful}
 use Rattle.entry_codec.specs.Spelling as spelled
-use Rattle.entry_codec.specs.Spelling.{format_number, by_credit, by_lag, with_lag}
+use Rattle.entry_codec.specs.Spelling.{format_number, by_credit, by_lag, with_lag, without_tag}
 use Rattle.news_types.specs.Fits.{FitsStory}
 use Rattle.news_types.specs.FitsCommands.{FitsCommand}
 use Rattle.entry_codec.specs.Formed.{IsFormedCommand, IsFormedStory}
 use Rattle.entry_codec.specs.Reading.{privileges, field, op, how, feed_format, statement, rule}
-use Rattle.entry_codec.specs.Commands.{command, command_at, command_fields, command_tag, one_of, without_tag, desk_command_at, feed_command_at, draft_command_at, release_command_at, newer_command_at}
+use Rattle.entry_codec.specs.Commands.{command, command_at, command_fields, command_tag, one_of, desk_command_at, feed_command_at, draft_command_at, release_command_at, newer_command_at}
 use Rattle.entry_codec.proofs.WordLaws.{Any, TenBits, read_again, privileges_lawful, field_lawful, op_lawful, how_lawful, feed_format_lawful}
 use Rattle.entry_codec.proofs.RecordLaws.{Kept, kept, both, maybe, a_name, a_flag, a_text, a_number, a_moment, some_names, IsPlain, IsCredited, plain_told, credited_told, plain_or, IsStatement, statement_lawful, IsRule, rule_lawful}
 

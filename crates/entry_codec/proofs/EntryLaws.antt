@@ -1,6 +1,6 @@
 -- The laws of acts and entries.
 use Rattle.std.proofs.Common.{◌≡◌, ℕ, ◌<◌, ◌≤◌, ◌^◌, List, ◌∷◌, ◌++◌, Result, Ok, refl, sym, ap, subst, arith, inl, inr, Bool, true, false, cond}
-use Rattle.byte_formats.specs.Except.{is_empty}
+use Rattle.byte_formats.specs.Spelling.{is_empty}
 use Rattle.std.specs.Int.{w64}
 use Rattle.std.proofs.lemmas.Bool.{cases_eq}
 use Rattle.news_types.specs.declared.story.Incoming.{Incoming}
@@ -12,12 +12,12 @@ use Rattle.byte_formats.proofs.Laws.{Lawful, chain_lawful, via, remake}
 use Rattle.byte_formats.proofs.Fields.{nothing_lawful, pair_lawful, ranged_lawful}
 use Rattle.byte_formats.proofs.Numbers.{wide64, whole_lawful}
 use Rattle.entry_codec.specs.Spelling as spelled
-use Rattle.entry_codec.specs.Spelling.{by_credit}
+use Rattle.entry_codec.specs.Spelling.{by_credit, act_tag, without_tag}
 use Rattle.news_types.specs.Fits.{IsMoment}
 use Rattle.entry_codec.specs.Fits.{FitsAct}
 use Rattle.entry_codec.specs.Formed.{IsFormedAct, IsEntry}
 use Rattle.entry_codec.specs.Reading.{moment, incoming, credited_incoming}
-use Rattle.entry_codec.specs.Commands.{command, act, act_at, act_fields, act_tag, without_tag, entry, entry_at}
+use Rattle.entry_codec.specs.Commands.{command, act, act_at, act_fields, entry, entry_at}
 use Rattle.entry_codec.proofs.WordLaws.{read_again, moment_lawful}
 use Rattle.entry_codec.proofs.RecordLaws.{Kept, kept, both, a_name, a_number, IsPlainIncoming, incoming_lawful, IsCreditedIncoming, credited_incoming_lawful, plain_or}
 use Rattle.entry_codec.proofs.CommandLaws.{IsCommand, credit_none, credit_some, command_lawful}

@@ -15,8 +15,7 @@ use Rattle.news_types.specs.declared.command.Command.TheVariants.{AddUser, SetUs
 use Rattle.news_types.specs.declared.entry.Act.{Act}
 use Rattle.news_types.specs.declared.entry.Act.TheVariants.{Advance, Attempt, Receipt, Halt, Ingest, Request}
 use Rattle.news_types.specs.declared.entry.Entry.{Entry}
-use Rattle.byte_formats.specs.Spelling.{◌&◌, IsName, IsOption, byte, u16, u32, u64, name, text, list, option, flag}
-use Rattle.byte_formats.specs.Except.{is_empty}
+use Rattle.byte_formats.specs.Spelling.{◌&◌, IsName, IsOption, byte, u16, u32, u64, name, text, list, option, flag, is_empty}
 use Rattle.byte_formats.proofs.Names.{name_parts}
 use Rattle.entry_codec.specs.Spelling.{field_number, op_number, how_number, format_number, status_number, plain_story, story, with_lag, with_given, incoming, statement, place, rule, command, act, entry_bytes}
 use Rattle.news_types.specs.Fits.{FitsStory, FitsIncoming}

@@ -6,8 +6,8 @@ use Rattle.news_types.specs.declared.story.Story.{Story}
 use Rattle.news_types.specs.declared.story.Incoming.{Incoming}
 use Rattle.news_types.specs.declared.rules.Statement.{Statement}
 use Rattle.news_types.specs.declared.rules.Rule.{Rule}
-use Rattle.byte_formats.specs.Spelling.{IsName, IsText, IsList, IsOption, text as text_bytes}
-use Rattle.byte_formats.specs.Except.{is_empty, some_text}
+use Rattle.byte_formats.specs.Spelling.{IsName, IsText, IsList, IsOption, text as text_bytes, is_empty}
+use Rattle.byte_formats.specs.Except.{some_text}
 use Rattle.byte_formats.proofs.Except.{some_text_lawful}
 use Rattle.byte_formats.specs.Format.{Format, pair, ranged, whole}
 use Rattle.byte_formats.specs.Fields.{name, text, option, list, flag}

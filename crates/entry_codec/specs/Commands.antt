@@ -1,5 +1,5 @@
 -- The formats of commands, acts and entries.
-use Rattle.std.specs.Prelude.{ℕ, List, [], ◌∷◌, Bool, Option, Some, None, Result, nat_lt, ◌==◌, if◌then◌else◌}
+use Rattle.std.specs.Prelude.{ℕ, List, Bool, Option, Some, None, Result, nat_lt, ◌==◌, if◌then◌else◌}
 use Rattle.std.specs.Int.{w32, w64}
 use Rattle.news_types.specs.declared.words.Field.{Field}
 use Rattle.news_types.specs.declared.words.Op.{Op}
@@ -19,7 +19,7 @@ use Rattle.byte_formats.specs.Format.{Format, chain, pair, made, nothing, ranged
 use Rattle.byte_formats.specs.Fields.{name, text, option, list, flag}
 use Rattle.byte_formats.specs.Except.{from_one}
 use Rattle.entry_codec.specs.Spelling as spelled
-use Rattle.entry_codec.specs.Spelling.{by_credit, by_lag, by_given}
+use Rattle.entry_codec.specs.Spelling.{by_credit, by_lag, by_given, act_tag, without_tag}
 use Rattle.entry_codec.specs.Reading.{privileges, field, op, how, feed_format, moment, story, credited, incoming, credited_incoming, statement, rule}
 
 -- ---- the fields behind a tag
@@ -156,11 +156,6 @@ command_tag (Recall _ _ _) = 30
 command_tag (Deschedule _) = 31
 command_tag Stop = 32
 
--- the bytes behind the tag
-abbrev pub without_tag : List ℕ → List ℕ
-without_tag [] = []
-without_tag (b ∷ bytes) = bytes
-
 abbrev pub command_of : {A : Type 0} → Format A → (A → Command) → Format Command
 command_of F make = made F make (λ c. without_tag (spelled.command c))
 
@@ -255,14 +250,6 @@ abbrev pub command : Format Command
 command = record { spell = spelled.command; read = command_at }
 
 -- ---- acts and entries
-
-abbrev pub act_tag : Act → ℕ
-act_tag Advance = 1
-act_tag (Attempt _ _) = 2
-act_tag (Receipt _ _) = 3
-act_tag Halt = 4
-act_tag (Ingest _ brought) = by_credit brought.story.copyright 5 7
-act_tag (Request _ _ _) = 6
 
 abbrev pub act_of : {A : Type 0} → Format A → (A → Act) → Format Act
 act_of F make = made F make (λ a. without_tag (spelled.act a))

@@ -1,5 +1,5 @@
 -- What an entry is in bytes: each field behind the one before it.
-use Rattle.std.specs.Prelude.{ℕ, List, length, Option, Some, None, ◌==◌, if◌then◌else◌}
+use Rattle.std.specs.Prelude.{ℕ, List, [], ◌∷◌, length, Option, Some, None, ◌==◌, if◌then◌else◌}
 use Rattle.news_types.specs.declared.words.Media.{Media}
 use Rattle.news_types.specs.declared.words.Media.TheVariants as media
 use Rattle.news_types.specs.declared.words.PubStatus.{PubStatus}
@@ -22,8 +22,7 @@ use Rattle.news_types.specs.declared.command.Command.TheVariants.{AddUser, SetUs
 use Rattle.news_types.specs.declared.entry.Act.{Act}
 use Rattle.news_types.specs.declared.entry.Act.TheVariants.{Advance, Attempt, Receipt, Halt, Ingest, Request}
 use Rattle.news_types.specs.declared.entry.Entry.{Entry}
-use Rattle.byte_formats.specs.Except.{is_empty}
-use Rattle.byte_formats.specs.Spelling.{◌&◌, byte, u16, u32, u64, name, text, list, option, flag}
+use Rattle.byte_formats.specs.Spelling.{is_empty, ◌&◌, byte, u16, u32, u64, name, text, list, option, flag}
 
 -- ---- words
 
@@ -159,6 +158,19 @@ act (Receipt subscriber n) = byte 3 & name subscriber & u32 n
 act Halt = byte 4
 act (Ingest provider brought) = byte (by_credit brought.story.copyright 5 7) & name provider & incoming brought
 act (Request caller number asked) = byte 6 & name caller & u64 number & command asked
+
+-- the first byte of an act, and the bytes behind that of a command or an act
+abbrev pub act_tag : Act → ℕ
+act_tag Advance = 1
+act_tag (Attempt _ _) = 2
+act_tag (Receipt _ _) = 3
+act_tag Halt = 4
+act_tag (Ingest _ brought) = by_credit brought.story.copyright 5 7
+act_tag (Request _ _ _) = 6
+
+abbrev pub without_tag : List ℕ → List ℕ
+without_tag [] = []
+without_tag (b ∷ bytes) = bytes
 
 abbrev pub entry_bytes : Entry → List ℕ
 entry_bytes e = u64 e.moment & act e.act

@@ -1,7 +1,7 @@
 //! Stories, and what providers send.
 
 ghost use Rattle.std.specs.Prelude.{◌≡◌, ◌++◌, OnOk};
-ghost use Rattle.byte_formats.specs.Except.{is_empty};
+ghost use Rattle.byte_formats.specs.Spelling.{is_empty};
 ghost use Rattle.byte_formats.specs.Fields.{text, flag};
 ghost use Rattle.byte_formats.specs.Format.{pair};
 ghost use Rattle.byte_formats.specs.Gives.{Gives};

@@ -20,8 +20,7 @@ use Rattle.byte_formats.specs.Spelling.{IsName, ◌&◌, byte, u32, u64, name, l
 use Rattle.byte_formats.specs.Varint.{varint_bytes}
 use Rattle.byte_formats.proofs.Varints.{varint_short}
 use Rattle.byte_formats.proofs.Names.{name_parts}
-use Rattle.entry_codec.specs.Spelling.{act}
-use Rattle.entry_codec.specs.Commands.{act_tag, without_tag}
+use Rattle.entry_codec.specs.Spelling.{act, act_tag, without_tag}
 use Rattle.entry_codec.specs.Formed.{IsEntry}
 use Rattle.entry_codec.proofs.Lengths.{entry_len}
 use Rattle.entry_codec.proofs.Appends.{then}

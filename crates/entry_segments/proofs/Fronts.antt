@@ -14,8 +14,7 @@ use Rattle.news_types.specs.declared.command.Command.{Command}
 use Rattle.byte_formats.specs.Spelling.{byte}
 use Rattle.byte_formats.specs.Varint.{groups, top, varint_bytes}
 use Rattle.byte_formats.proofs.Varints.{groups_small, groups_big, top_suc, top_zero}
-use Rattle.entry_codec.specs.Spelling.{act}
-use Rattle.entry_codec.specs.Commands.{act_tag, without_tag}
+use Rattle.entry_codec.specs.Spelling.{act, act_tag, without_tag}
 use Rattle.entry_codec.specs.Formed.{IsEntry}
 use Rattle.entry_segments.specs.Segment.{with_name, with_names_of, names_from, names_of, packed_fields, packed, InTime}
 use Rattle.news_types.specs.Names.{AreInOrder}

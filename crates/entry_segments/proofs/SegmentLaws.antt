@@ -14,20 +14,19 @@ use Rattle.news_types.proofs.Members.{same_is, same_self}
 use Rattle.news_types.specs.declared.entry.Act.{Act}
 use Rattle.news_types.specs.declared.entry.Act.TheVariants.{Advance, Attempt, Receipt, Halt, Ingest, Request}
 use Rattle.news_types.specs.declared.entry.Entry.{Entry}
-use Rattle.byte_formats.specs.Spelling.{◌&◌, IsName, IsList, u16, u32, u64, name as name_bytes, list as list_bytes}
+use Rattle.byte_formats.specs.Spelling.{◌&◌, IsName, IsList, u16, u32, u64, name as name_bytes, list as list_bytes, is_empty}
 use Rattle.byte_formats.specs.Format.{Format, ranged, whole, upto}
 use Rattle.byte_formats.specs.Fields.{name}
 use Rattle.byte_formats.proofs.Fields.{ranged_lawful}
 use Rattle.byte_formats.proofs.Numbers.{wide16, wide32, wide64, whole_lawful, upto_lawful}
 use Rattle.byte_formats.proofs.Names.{name_parts, name_lawful}
-use Rattle.entry_codec.specs.Spelling.{act, by_credit}
-use Rattle.entry_codec.specs.Commands.{act_tag, act_fields, without_tag}
+use Rattle.entry_codec.specs.Spelling.{act, by_credit, act_tag, without_tag}
+use Rattle.entry_codec.specs.Commands.{act_fields}
 use Rattle.entry_codec.specs.Formed.{IsEntry}
 use Rattle.entry_codec.proofs.EntryLaws.{IsAct, OfTag, fields_lawful}
 use Rattle.entry_codec.proofs.Lengths.{entry_len}
 use Rattle.entry_segments.specs.declared.segment.Segment.{Segment}
 use Rattle.byte_formats.specs.Parts.{linked, picked, checked, steps, AllSteps, boxed_bytes}
-use Rattle.byte_formats.specs.Except.{is_empty}
 use Rattle.byte_formats.specs.Varint.{varint, varint_bytes}
 use Rattle.entry_segments.specs.Segment as spelled
 use Rattle.entry_segments.specs.Segment.{names_of, place, InTime, IsSegment}

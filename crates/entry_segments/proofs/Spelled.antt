@@ -11,8 +11,7 @@ use Rattle.news_types.specs.declared.entry.Act.TheVariants.{Advance, Attempt, Re
 use Rattle.news_types.specs.declared.entry.Entry.{Entry}
 use Rattle.byte_formats.specs.declared.stop.Stopped.{Stopped}
 use Rattle.byte_formats.specs.declared.stop.Stopped.TheVariants as stopped
-use Rattle.byte_formats.specs.Spelling.{IsName, name, u32, u64}
-use Rattle.byte_formats.specs.Except.{is_empty}
+use Rattle.byte_formats.specs.Spelling.{IsName, name, u32, u64, is_empty}
 use Rattle.byte_formats.specs.Format.{byte_at, whole_at}
 use Rattle.byte_formats.specs.Fields.{name_at}
 use Rattle.byte_formats.specs.Gives.{Fails, IsFault, all_of}
@@ -21,8 +20,8 @@ use Rattle.byte_formats.proofs.Numbers.{wide32, wide64, whole_lawful}
 use Rattle.byte_formats.proofs.Fields.{ranged_lawful}
 use Rattle.byte_formats.proofs.Names.{name_lawful}
 use Rattle.byte_formats.proofs.Whole.{all_again}
-use Rattle.entry_codec.specs.Spelling.{act, entry_bytes}
-use Rattle.entry_codec.specs.Commands.{act_tag, without_tag, entry}
+use Rattle.entry_codec.specs.Spelling.{act, entry_bytes, act_tag, without_tag}
+use Rattle.entry_codec.specs.Commands.{entry}
 use Rattle.entry_codec.specs.Formed.{IsFormedAct, IsEntry}
 use Rattle.entry_codec.proofs.Lengths.{entry_len}
 use Rattle.entry_codec.proofs.EntryLaws.{entry_lawful}

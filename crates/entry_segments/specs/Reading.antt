@@ -10,7 +10,8 @@ use Rattle.news_types.specs.declared.entry.Entry.{Entry}
 use Rattle.byte_formats.specs.Spelling.{◌&◌, byte, name as name_bytes, list as spelled_list}
 use Rattle.byte_formats.specs.Format.{Format, ranged, whole, upto}
 use Rattle.byte_formats.specs.Fields.{name}
-use Rattle.entry_codec.specs.Commands.{act_tag, act_fields}
+use Rattle.entry_codec.specs.Commands.{act_fields}
+use Rattle.entry_codec.specs.Spelling.{act_tag}
 use Rattle.entry_segments.specs.declared.segment.Segment.{Segment}
 use Rattle.byte_formats.specs.Parts.{linked, picked, checked, steps, boxed}
 use Rattle.byte_formats.specs.Varint.{varint}

@@ -9,8 +9,7 @@ use Rattle.news_types.specs.declared.entry.Act.{Act}
 use Rattle.news_types.specs.declared.entry.Act.TheVariants.{Advance, Attempt, Receipt, Halt}
 use Rattle.news_types.specs.declared.entry.Entry.{Entry}
 use Rattle.byte_formats.specs.Spelling.{◌&◌, byte, u16, u32, u64, name, list}
-use Rattle.entry_codec.specs.Spelling.{act}
-use Rattle.entry_codec.specs.Commands.{act_tag, without_tag}
+use Rattle.entry_codec.specs.Spelling.{act, act_tag, without_tag}
 use Rattle.entry_codec.specs.Formed.{IsEntry}
 use Rattle.byte_formats.specs.Varint.{varint_bytes}
 

@@ -6,8 +6,7 @@ use Rattle.news_types.specs.declared.entry.Entry.{Entry}
 use Rattle.byte_formats.specs.Spelling.{u16}
 use Rattle.byte_formats.specs.Parts.{boxed_bytes}
 use Rattle.byte_formats.specs.Varint.{varint_bytes}
-use Rattle.entry_codec.specs.Spelling.{act}
-use Rattle.entry_codec.specs.Commands.{without_tag}
+use Rattle.entry_codec.specs.Spelling.{act, without_tag}
 use Rattle.entry_segments.specs.Segment.{with_name, with_names_of, place, packed_fields, packed}
 use Rattle.news_types.specs.Names.{AreInOrder}
 use Rattle.entry_segments.specs.Packing.{names_size, has_room}

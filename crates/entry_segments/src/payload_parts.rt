@@ -3,8 +3,7 @@
 ghost use Rattle.std.specs.Prelude.{◌≡◌, ◌≤◌, IfOk, IfErr};
 ghost use Rattle.news_types.specs.declared.entry.Act.{Act};
 ghost use Rattle.byte_formats.specs.Gives.{IsFault};
-ghost use Rattle.entry_codec.specs.Commands.{act_tag, without_tag};
-ghost use Rattle.entry_codec.specs.Spelling.{act as act_bytes};
+ghost use Rattle.entry_codec.specs.Spelling.{act_tag, without_tag, act as act_bytes};
 ghost use Rattle.entry_codec.specs.Formed.{IsFormedAct};
 ghost use Rattle.entry_segments.specs.Told.{Tells, told_size};
 ghost use Rattle.entry_segments.specs.Spelled.{entry_in, IsPayload};

@@ -8,6 +8,7 @@ pub mod Kept
 pub mod Left
 pub mod Link
 pub mod Moments
+pub mod Outside
 pub mod Replay
 pub mod Sink
 pub mod Source

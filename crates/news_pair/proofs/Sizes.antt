@@ -10,7 +10,7 @@ use Rattle.news_io.specs.declared.record.Record.{Record}
 use Rattle.byte_formats.specs.Spelling.{byte, name}
 use Rattle.byte_formats.specs.Varint.{varint_bytes}
 use Rattle.byte_formats.proofs.Varints.{varint_some}
-use Rattle.entry_codec.specs.Commands.{act_tag}
+use Rattle.entry_codec.specs.Spelling.{act_tag}
 use Rattle.entry_segments.specs.Segment.{names_of, packed_fields, packed, all_packed, segment}
 use Rattle.news_journal.specs.Log.{records}
 use Rattle.news_journal.specs.Read.{length-be}
