@@ -12,7 +12,8 @@ use Rattle.news_room.specs.Said.{said_tick, is_failure}
 use Rattle.news_room.specs.Stands.{Stands}
 use Rattle.news_room.specs.declared.answers.Ticked.{Ticked}
 use Rattle.news_room.specs.declared.room.Room.{Room}
-use Rattle.room_reports.specs.Reports.{IsWrittenOut, IsReported, IsReport}
+use Rattle.room_reports.specs.Reports.{IsReported, IsReport}
+use Rattle.room_reports.specs.Written.{IsWrittenOut}
 use Rattle.store_files.specs.Store.{IsOpenRoom}
 use Rattle.newsdesk_cli.specs.FilesLeft.{FilesLeft}
 use Rattle.newsdesk_cli.proofs.FilesLeft.{step_left}

@@ -26,7 +26,7 @@ use Rattle.news_pair.specs.PackFaults.{IsDamage, FaultCounts}
 use Rattle.news_room.specs.declared.room.Room.{Room}
 use Rattle.package_rules.specs.Report.{contents_report}
 use Rattle.publish_workers.specs.LinkDrains.{end_of_all}
-use Rattle.room_reports.specs.Reports.{feed_report_at, queue_report_at}
+use Rattle.room_reports.specs.Texts.{feed_report_at, queue_report_at}
 use Rattle.room_runs.specs.Desk.{Hand, line_hand}
 use Rattle.room_runs.specs.Lines.{LONGEST_LINE, of_line}
 use Rattle.room_runs.specs.Members.{MembersAnswered}

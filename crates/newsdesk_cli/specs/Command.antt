@@ -36,7 +36,8 @@ use Rattle.newsdesk_cli.specs.Archive.{IsArchive}
 use Rattle.newsdesk_cli.specs.Imports.{IsImportOf}
 use Rattle.newsdesk_cli.specs.Packages.{IsPackageOf, IsContents}
 use Rattle.room_runs.specs.Lines.{no_frames, LONGEST_INPUT}
-use Rattle.room_reports.specs.Reports.{feed_report_at, queue_report_at, IsReport}
+use Rattle.room_reports.specs.Reports.{IsReport}
+use Rattle.room_reports.specs.Texts.{feed_report_at, queue_report_at}
 use Rattle.feed_drill.specs.Drill.{Drills}
 use Rattle.feed_drill.specs.Readings.{IsReadByDrill}
 use Rattle.publish_workers.specs.LinkDrains.{IsDrained}

@@ -7,7 +7,7 @@ ghost use Rattle.news_types.specs.Frames.{Frame};
 ghost use Rattle.news_types.specs.Names.{Bytes};
 ghost use Rattle.receiver_files.specs.Log.{Gives};
 ghost use Rattle.receiver_files.specs.Receive.{IsReceive, IsServed};
-ghost use Rattle.room_reports.specs.Reports.{feed_report_at, queue_report_at};
+ghost use Rattle.room_reports.specs.Texts.{feed_report_at, queue_report_at};
 ghost use Rattle.store_files.specs.Store.{Opens};
 ghost use Rattle.command_words.specs.Words.{job_of};
 ghost use Rattle.newsdesk_cli.specs.Command.{IsInit, IsBatch, IsIngest, IsReportOf, IsDrain, IsDrilled, IsCheck, IsPack, Does, Serves, ReceiverServes};

@@ -10,7 +10,7 @@ use Rattle.run_status.specs.Status.{line_of}
 use Rattle.run_status.specs.declared.status.Status.{Status}
 use Rattle.run_status.specs.declared.status.Status.TheVariants as status
 use Rattle.feed_reports.specs.Queue.{summary_report}
-use Rattle.room_reports.specs.Reports.{IsWhole, IsCut}
+use Rattle.room_reports.specs.Written.{IsWhole, IsCut}
 use Rattle.server_roles.specs.declared.first.Ending.{Ending}
 
 -- how many entries the list has, and then how the feeds fare, in byte order of their subscribers

@@ -21,7 +21,7 @@ use Rattle.news_room.proofs.Lists.{same_list}
 use Rattle.store_files.proofs.Holding.{calls_shut}
 use Rattle.wire_run.specs.Members.{of_found, of_item}
 use Rattle.world_laws.specs.World.{World, Event}
-use Rattle.room_reports.specs.Reports.{feed_report_at, queue_report_at}
+use Rattle.room_reports.specs.Texts.{feed_report_at, queue_report_at}
 use Rattle.room_runs.specs.Desk.{Hand, line_hand}
 use Rattle.room_runs.specs.Life.{life}
 use Rattle.room_runs.specs.Lines.{of_line}

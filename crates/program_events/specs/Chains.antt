@@ -24,7 +24,7 @@ use Rattle.news_pair.specs.Stands.{log_disk, side_disk}
 use Rattle.news_pair.specs.Steps.{Stays}
 use Rattle.news_pair.specs.Steps.Stays.{as_they_are, side_written, log_written}
 use Rattle.news_room.specs.Stands.{in_doubt}
-use Rattle.room_reports.specs.Reports.{feed_report_at, queue_report_at}
+use Rattle.room_reports.specs.Texts.{feed_report_at, queue_report_at}
 use Rattle.store_files.specs.Files.{Files, OpenTo, MayLeave, LeftSince}
 use Rattle.world_laws.specs.Headline.{Headline}
 use Rattle.world_laws.specs.World.{World, Event, Reopens, happens, after}

@@ -31,7 +31,8 @@ use Rattle.news_room.specs.Stands.{in_doubt}
 use Rattle.world_laws.specs.World.{World, Event, run}
 use Rattle.newsdesk_cli.specs.Command.{HasAnswered, IsReportOf, IsDrain, Does}
 use Rattle.newsdesk_cli.specs.Opened.{HasGoneOn}
-use Rattle.room_reports.specs.Reports.{feed_report_at, queue_report_at, IsWrittenOut, IsStopped}
+use Rattle.room_reports.specs.Written.{IsWrittenOut, IsStopped}
+use Rattle.room_reports.specs.Texts.{feed_report_at, queue_report_at}
 use Rattle.room_runs.specs.Lines.{LONGEST_INPUT}
 use Rattle.command_words.specs.declared.words.Job.{Job}
 use Rattle.command_words.specs.declared.words.Job.TheVariants.{Batch, Ingest, Import, Package, Feed, Queue, Drain}

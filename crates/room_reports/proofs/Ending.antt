@@ -14,7 +14,8 @@ use Rattle.news_room.specs.Stands.{Stands, SomeBook, numbers}
 use Rattle.news_room.specs.Steps.{TickStep}
 use Rattle.news_room.specs.declared.answers.Ticked.{Ticked}
 use Rattle.news_room.specs.declared.room.Room.{Room}
-use Rattle.room_reports.specs.Reports.{IsWhole, IsCut, IsWrittenOut, IsStopped, IsReported, CountsStore, CountsOutput, IsComplete, IsRelease, IsReport}
+use Rattle.room_reports.specs.Reports.{IsReported, CountsStore, CountsOutput, IsComplete, IsRelease, IsReport}
+use Rattle.room_reports.specs.Written.{IsWhole, IsCut, IsWrittenOut, IsStopped}
 use Rattle.room_reports.specs.Parts.{released, ended, Writes}
 
 module _ {O : Type 0} (sink : SinkMeaning O) (report : Bytes) where

@@ -17,7 +17,8 @@ use Rattle.desk_answers.specs.Answers.{answer_bytes}
 use Rattle.feed_reports.specs.Line.{line}
 use Rattle.feed_reports.specs.Feed.{feed_line, feed_report, kind_word, feed_report_of, page_report}
 use Rattle.feed_reports.proofs.Pages.{feed_report_of-page, feed_report_of-end}
-use Rattle.room_reports.specs.Reports.{AreLines, feed_report_at, unknown_line}
+use Rattle.room_reports.specs.Written.{AreLines}
+use Rattle.room_reports.specs.Texts.{feed_report_at, unknown_line}
 use Rattle.room_reports.specs.Parts.{IsLater, IsPage}
 use Rattle.room_reports.proofs.Writing.{lines_then}
 

@@ -7,7 +7,7 @@ use Rattle.news_io.specs.Sink.{SinkMeaning, AreFirst}
 use Rattle.run_status.specs.Output.{Wrote}
 use Rattle.run_status.proofs.Tellings.{wrote_none}
 use Rattle.run_status.specs.declared.status.Status.{Status}
-use Rattle.room_reports.specs.Reports.{AreLines, IsWhole, IsPart}
+use Rattle.room_reports.specs.Written.{AreLines, IsWhole, IsPart}
 use Rattle.room_reports.specs.Parts.{Writes}
 
 -- ---- whole lines

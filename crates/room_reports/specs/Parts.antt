@@ -6,7 +6,8 @@ use Rattle.news_io.specs.Sink.{SinkMeaning}
 use Rattle.run_status.specs.declared.status.Status.{Status}
 use Rattle.news_room.specs.declared.answers.Ticked.{Ticked}
 use Rattle.room_reports.specs.declared.feed.Page.{Page}
-use Rattle.room_reports.specs.Reports.{feed_report_at, AreLines, IsWhole, IsCut, IsPart}
+use Rattle.room_reports.specs.Written.{AreLines, IsWhole, IsCut, IsPart}
+use Rattle.room_reports.specs.Texts.{feed_report_at}
 
 -- ---- pages of the report on a feed
 

@@ -2,7 +2,8 @@
 ghost use Rattle.std.specs.Prelude.{◌≡◌, ◌+◌, ◌^◌, ◌<◌, ◌≤◌, IfOk, IfSome, MatchOption};
 ghost use Rattle.news_types.specs.Books.{Book};
 ghost use Rattle.news_room.specs.Stands.{Stands, SomeBook};
-ghost use Rattle.room_reports.specs.Reports.{feed_report_at, unknown_line as line_of_unknown, IsReport};
+ghost use Rattle.room_reports.specs.Reports.{IsReport};
+ghost use Rattle.room_reports.specs.Texts.{feed_report_at, unknown_line as line_of_unknown};
 ghost use Rattle.room_reports.specs.Parts.{IsLater, IsPage, Writes};
 
 use crate::output::{tell_end, write_part};

@@ -1,7 +1,7 @@
 //! What is written.
 ghost use Rattle.std.specs.Prelude.{◌≡◌};
 ghost use Rattle.room_reports.specs.Parts.{ended, Writes};
-ghost use Rattle.room_reports.specs.Reports.{IsStopped};
+ghost use Rattle.room_reports.specs.Written.{IsStopped};
 
 use news_io::{Sink, write_through};
 use run_status::{Status, tell_status};

@@ -2,7 +2,8 @@
 ghost use Rattle.std.specs.Prelude.{◌≡◌, IfOk};
 ghost use Rattle.news_types.specs.Books.{Book};
 ghost use Rattle.news_room.specs.Stands.{Stands, SomeBook};
-ghost use Rattle.room_reports.specs.Reports.{queue_report_at, IsReport};
+ghost use Rattle.room_reports.specs.Reports.{IsReport};
+ghost use Rattle.room_reports.specs.Texts.{queue_report_at};
 ghost use Rattle.room_reports.specs.Parts.{Writes};
 
 use crate::output::{tell_end, write_part};

@@ -18,7 +18,7 @@ use Rattle.news_io.specs.Source.{SourceMeaning}
 use Rattle.news_pair.specs.Keeper.{pair_of}
 use Rattle.news_pair.specs.Stands.{log_disk, side_disk}
 use Rattle.news_room.specs.Stands.{in_doubt}
-use Rattle.room_reports.specs.Reports.{feed_report_at, queue_report_at}
+use Rattle.room_reports.specs.Texts.{feed_report_at, queue_report_at}
 use Rattle.room_runs.specs.Batch.{InputAnswered}
 use Rattle.room_runs.specs.Wires.{IngestAnswered}
 use Rattle.store_files.specs.Files.{Files, OpenTo, OpenAlike, MayLeave, LeftSince}

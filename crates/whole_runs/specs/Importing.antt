@@ -11,7 +11,7 @@ use Rattle.line_run.specs.Status.{status_by}
 use Rattle.line_run.specs.declared.ending.Ending.{Ending}
 use Rattle.wire_run.specs.Reading.{IsReadThrough}
 use Rattle.run_status.specs.declared.status.Status.{Status}
-use Rattle.room_reports.specs.Reports.{IsStopped}
+use Rattle.room_reports.specs.Written.{IsStopped}
 use Rattle.news_room.specs.Stands.{Stands}
 use Rattle.news_room.specs.declared.room.Room.{Room}
 use Rattle.subscriber_import.specs.declared.import.Imported.{Imported}

@@ -3,7 +3,7 @@ use Rattle.std.specs.Prelude.{◌≡◌, ◌⊎◌, ℕ}
 use Rattle.news_types.specs.Names.{Bytes}
 use Rattle.news_io.specs.Sink.{SinkMeaning}
 use Rattle.run_status.specs.declared.status.Status.{Status}
-use Rattle.room_reports.specs.Reports.{IsWhole, IsCut, IsStopped}
+use Rattle.room_reports.specs.Written.{IsWhole, IsCut, IsStopped}
 
 module _ {O : Type 0} (sink : SinkMeaning O) where
   -- all of the text was written and has passed on; or its first bytes, where the output failed; or there was no memory for it

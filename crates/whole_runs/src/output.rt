@@ -1,5 +1,5 @@
 //! What is told at the end of a run.
-ghost use Rattle.room_reports.specs.Reports.{IsStopped};
+ghost use Rattle.room_reports.specs.Written.{IsStopped};
 ghost use Rattle.whole_runs.specs.Output.{IsTextTold};
 
 use news_io::{Sink, write_through};

@@ -1,6 +1,6 @@
 use Rattle.std.proofs.Common.{◌∙◌, inl, inr, ap, refl}
 use Rattle.news_pair.specs.Stands.{log_disk, side_disk}
-use Rattle.room_reports.specs.Reports.{queue_report_at}
+use Rattle.room_reports.specs.Texts.{queue_report_at}
 use Rattle.newsdesk_cli.proofs.Commands.{some_book}
 use Rattle.newsdesk_cli.proofs.Reporting.{report_left}
 use Rattle.newsdesk_cli.proofs.command.queue.Goals as goal

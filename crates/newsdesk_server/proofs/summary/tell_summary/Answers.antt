@@ -1,7 +1,7 @@
 use Rattle.std.proofs.Common.{◌∙◌, inl, inr, refl, sym, subst, take, drop}
 use Rattle.std.proofs.lemmas.List.{take-append-drop}
 use Rattle.news_types.specs.Names.{Bytes}
-use Rattle.room_reports.specs.Reports.{IsCut}
+use Rattle.room_reports.specs.Written.{IsCut}
 use Rattle.newsdesk_server.proofs.summary.tell_summary.Goals as goal
 
 pub returns : goal.returns

@@ -1,5 +1,5 @@
 use Rattle.news_types.specs.Books.{onto}
-use Rattle.room_reports.specs.Reports.{feed_report_at}
+use Rattle.room_reports.specs.Texts.{feed_report_at}
 use Rattle.room_reports.proofs.Ending.{report_follows, no_report}
 use Rattle.room_reports.proofs.feed.tell_feed.Goals as goal
 

@@ -1,7 +1,8 @@
 use Rattle.std.proofs.Common.{◌∙◌, ◌<◌, ◌^◌, ◌++◌, ℕ, Option, Err, refl, ap, subst, arith}
 use Rattle.std.proofs.lemmas.Result.{err_from_is_err_and}
 use Rattle.news_types.specs.Names.{Bytes}
-use Rattle.room_reports.specs.Reports.{feed_report_at, IsWhole}
+use Rattle.room_reports.specs.Written.{IsWhole}
+use Rattle.room_reports.specs.Texts.{feed_report_at}
 use Rattle.room_reports.specs.Parts.{Writes, rest_from, IsLater}
 use Rattle.room_reports.proofs.Writing.{none_so_far, part_there, cut_there, more_so_far, all_there}
 use Rattle.room_reports.proofs.feed.write_feed.Goals as goal

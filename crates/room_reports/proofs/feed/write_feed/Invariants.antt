@@ -1,7 +1,7 @@
 use Rattle.std.proofs.Common.{◌≡◌, ◌-◌, ◌^◌}
 use Rattle.news_types.specs.Books.{Book}
 use Rattle.news_room.specs.Stands.{Stands}
-use Rattle.room_reports.specs.Reports.{feed_report_at}
+use Rattle.room_reports.specs.Texts.{feed_report_at}
 use Rattle.room_reports.proofs.Writing.{SoFar}
 use Rattle.room_reports.proofs.feed.write_feed.Given as goal
 

@@ -1,5 +1,5 @@
 use Rattle.news_types.specs.Books.{onto}
-use Rattle.room_reports.specs.Reports.{queue_report_at}
+use Rattle.room_reports.specs.Texts.{queue_report_at}
 use Rattle.room_reports.proofs.Ending.{report_follows, no_report}
 use Rattle.room_reports.proofs.queue.tell_queue.Goals as goal
 

@@ -2,7 +2,7 @@ use Rattle.std.proofs.Common.{◌∙◌, inl, [], refl, subst}
 use Rattle.news_types.specs.Names.{Bytes}
 use Rattle.run_status.proofs.Tellings.{wrote_none}
 use Rattle.room_reports.specs.Parts.{Writes}
-use Rattle.room_reports.specs.Reports.{queue_report_at}
+use Rattle.room_reports.specs.Texts.{queue_report_at}
 use Rattle.room_reports.proofs.queue.write_queue.Goals as goal
 
 pub queue_lines-requires : goal.queue_lines-requires

@@ -1,7 +1,7 @@
 use Rattle.std.proofs.Common.{inl, inr, refl, subst}
 use Rattle.news_types.specs.Names.{Bytes}
 use Rattle.run_status.specs.declared.status.Status.{Status}
-use Rattle.room_reports.specs.Reports.{IsStopped}
+use Rattle.room_reports.specs.Written.{IsStopped}
 use Rattle.subscriber_import.specs.Table.{rows_of, behind_head}
 use Rattle.subscriber_import.specs.Steps.{Imports}
 use Rattle.whole_runs.proofs.import.import_input.Goals as goal

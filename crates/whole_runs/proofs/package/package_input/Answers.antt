@@ -2,7 +2,7 @@ use Rattle.std.proofs.Common.{◌≡◌, ◌⊎◌, inl, inr, refl, subst, ℕ, 
 use Rattle.news_types.specs.Names.{Bytes}
 use Rattle.news_io.specs.Sink.{SinkMeaning}
 use Rattle.run_status.specs.declared.status.Status.{Status}
-use Rattle.room_reports.specs.Reports.{IsStopped}
+use Rattle.room_reports.specs.Written.{IsStopped}
 use Rattle.desk_lines.specs.declared.property.LineFault.{LineFault}
 use Rattle.desk_lines.specs.declared.property.LineFault.TheVariants as fault
 use Rattle.desk_lines.specs.declared.property.LineProperty.{LineProperty}
