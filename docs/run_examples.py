@@ -6,13 +6,16 @@
 An example is a block whose first line begins with `$ `: commands, each with what it prints behind it; behind `$ cat > FILE` stands what
 the file is to hold. The blocks of a page share one folder, which is made for it and taken away. A release is compared as far as it is
 the present second, as a number or as a date with its time: it is another one each time. The first example of README.md has to be the
-session that `newsdesk --try` does, too.
+session that `newsdesk --try` does, too. What the pages say of the sources is looked at first, by check_pages.py.
 """
 import os
 import re
 import subprocess
 import sys
 import tempfile
+
+sys.dont_write_bytecode = True
+import check_pages  # noqa: E402
 
 TOP = os.path.dirname(os.path.dirname(os.path.abspath(__file__)))
 PAGES = ("README.md", "docs/DESK.md", "docs/OPERATING.md", "docs/SERVING.md", "docs/SUBSCRIBERS.md", "docs/WIRES.md")
@@ -89,7 +92,7 @@ def run(page):
 
 
 def main():
-    failed = 0
+    failed = check_pages.main([])
     for page in sys.argv[1:] or PAGES:
         count, wrong = run(page)
         print(f"{page}: {count} commands, {wrong} of them otherwise than the page says")
@@ -97,4 +100,5 @@ def main():
     sys.exit(1 if failed else 0)
 
 
-main()
+if __name__ == "__main__":
+    main()
