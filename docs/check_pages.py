@@ -5,6 +5,7 @@
   with. `--write` puts the lines right where the text has moved.
 - In ARCHITECTURE.md the table of the rooms has each crate of crates.txt once, and no other; a crate that its last column names is one that
   the room stands on, directly or through others.
+- README.md has each crate once in its table of promises.
 - Each link of a page to a file of the repository leads to one.
 
 What is wrong is printed, a line each, and the status is 1.
@@ -101,6 +102,15 @@ def rooms(found):
             yield f"ARCHITECTURE.md: {name} stands {told.count(name)} times in the table, and {'is' if name in found else 'is not'} in crates.txt"
 
 
+def promises(found):
+    """Crates that README's table has not, or more than once."""
+    table = read("README.md").split("| Crate | What it is | Carried by |")[1].split("\n\n")[0]
+    told = [name for row in table.splitlines() for name in re.findall(r"`(\w+)`", row.split(" | ")[0])]
+    for name in sorted(set(told) | set(found)):
+        if told.count(name) != 1 or name not in found:
+            yield f"README.md: {name} stands {told.count(name)} times in its table, and {'is' if name in found else 'is not'} in crates.txt"
+
+
 def links():
     """Links of the pages that lead nowhere."""
     pages = ["README.md"] + ["docs/" + it for it in sorted(os.listdir(os.path.join(TOP, "docs"))) if it.endswith(".md")]
@@ -119,7 +129,7 @@ def main(words=None):
         with open(os.path.join(TOP, "docs/RULES.md"), "w", encoding="utf-8") as file:
             file.write(text)
         lost = places(text)[1]
-    wrong = [f"RULES.md: {it}" for it in lost] + list(rooms(crates())) + list(links())
+    wrong = [f"RULES.md: {it}" for it in lost] + list(rooms(crates())) + list(promises(crates())) + list(links())
     for it in wrong:
         print(it)
     return 1 if wrong else 0
