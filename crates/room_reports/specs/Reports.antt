@@ -1,5 +1,5 @@
 -- What becomes of a report that is asked of a room.
-use Rattle.std.specs.Prelude.{◌≡◌, ◌⊎◌, ℕ, [], ◌∷◌}
+use Rattle.std.specs.Prelude.{◌≡◌, ◌⊎◌, ℕ, List, [], ◌∷◌}
 use Rattle.news_types.specs.declared.entry.Entry.{Entry}
 use Rattle.news_types.specs.Names.{Bytes}
 use Rattle.news_types.specs.History.{History}
@@ -21,10 +21,10 @@ use Rattle.room_reports.specs.Written.{IsWrittenOut, IsStopped}
 module _ {O : Type 0} (sink : SinkMeaning O) where
   -- the report, where the tick was kept or nothing waited; else why there is none
   abbrev pub IsReported : Bytes → O → O → ℕ → Ticked → Type 0
-  IsReported report old new status (Ticked.Kept place) = IsWrittenOut report old new status
-  IsReported report old new status Ticked.Still = IsWrittenOut report old new status
-  IsReported report old new status Ticked.Fault = IsStopped Status.Store old new status
-  IsReported report old new status (Ticked.Full size count) = IsStopped Status.Full old new status
+  IsReported report old new status (Ticked.Kept place) = IsWrittenOut sink report old new status
+  IsReported report old new status Ticked.Still = IsWrittenOut sink report old new status
+  IsReported report old new status Ticked.Fault = IsStopped sink Status.Store old new status
+  IsReported report old new status (Ticked.Full size count) = IsStopped sink Status.Full old new status
 
 -- ---- counts of faults, and completeness, by the status
 
