@@ -5,8 +5,8 @@ The run has to end with status 9 and the answers so far, or with 0 and all of th
 the log that it left, and the log has to be, byte for byte, the one that the session makes when nothing is refused.
 
 Then `newsdesk drain` of a flashed story, with its claim and its receipt, and `newsdesk pack` behind it, once for each of their allocations.
-Each has to end with status 9, or as it does when nothing is refused; once more without refusal, the receiver has the story, and the list
-is as long behind the packing as before it.
+Each has to end with status 9, or as it does when nothing is refused, or, where a connection wanted the memory, with a link that
+failed; once more without refusal, the receiver has the story, and the list is as long behind the packing as before it.
 """
 import json
 import os
@@ -20,13 +20,17 @@ AT = "1893456000"
 TOP = os.path.dirname(os.path.dirname(os.path.abspath(__file__)))
 NEWSDESK = os.path.join(TOP, "newsdesk")
 NO_MEMORY = 9
+# a connection for whose buffer there is no memory is one that could not be made
+FAILED_LINK = 10
 
 
 def page_lines():
-    """The examples of docs/LINES.md: the first session of desk_sessions."""
+    """The examples of docs/LINES.md: the session of desk_sessions that says so."""
     with open(os.path.join(TOP, "crates/desk_sessions/stdin"), encoding="utf-8") as sessions:
-        lines = sessions.read().split("\n#")[0].splitlines(keepends=True)
-    return [line for line in lines if line.startswith("{")]
+        session = sessions.read().partition("# The examples of docs/LINES.md")[2].split("\n#")[0]
+    lines = [line for line in session.splitlines(keepends=True) if line.startswith("{")]
+    assert lines, "desk_sessions has no session of the examples of docs/LINES.md"
+    return lines
 
 
 class Store:
@@ -108,8 +112,8 @@ def entries(store):
     return json.loads(checked.stdout.splitlines()[-1])
 
 
-def refuse_each(store, words, receiver, is_right):
-    """Does a command once for each of its allocations, which is refused: how many there were."""
+def refuse_each(store, words, receiver, statuses, is_right):
+    """Does a command once for each of its allocations, which is refused: how many there were. It ends with one of these statuses."""
     number = 0
     while True:
         number += 1
@@ -121,7 +125,7 @@ def refuse_each(store, words, receiver, is_right):
         before = entries(store)
         run = store.run(words, refuse=number)
         was_refused = store.was_refused()
-        if run.returncode not in (0, NO_MEMORY) or not is_right(store, before):
+        if run.returncode not in statuses or not is_right(store, before):
             sys.exit(f"{words[0]}, allocation {number}: status {run.returncode}, {run.stdout}{run.stderr}")
         if not was_refused:
             return number - 1
@@ -158,9 +162,9 @@ def main():
         print(f"{number - 1} allocations were refused, {starved} runs ended for want of memory, and no list was another one")
         receiver = Receiver()
         drain = ["drain", store.log, "alpha", receiver.address]
-        number = refuse_each(store, drain, receiver, lambda store, before: is_delivered(store, receiver))
+        number = refuse_each(store, drain, receiver, (0, NO_MEMORY, FAILED_LINK), lambda store, before: is_delivered(store, receiver))
         print(f"drain: {number} allocations were refused, and the story arrived each time")
-        number = refuse_each(store, ["pack", store.log], receiver, lambda store, before: entries(store) == before)
+        number = refuse_each(store, ["pack", store.log], receiver, (0, NO_MEMORY), lambda store, before: entries(store) == before)
         print(f"pack: {number} allocations were refused, and no list was another one")
 
 
