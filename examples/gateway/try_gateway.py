@@ -21,7 +21,7 @@ HERE = os.path.dirname(os.path.abspath(__file__))
 TOP = os.path.dirname(os.path.dirname(HERE))
 NEWSDESK = os.environ.get("NEWSDESK", os.path.join(TOP, "newsdesk"))
 STORE = "6ba7b810-9dad-11d1-80b4-00c04fd430c8"
-KEY = "0f1e2d3c4b5a69788796a5b4c3d2e1f0"
+KEY = "0f1e2d3c4b5a69780f1e2d3c4b5a6978"
 PASSWORDS = {"ana": "a-1", "alpha": "b-2", "beta": "c-3", "zoe": "d-4"}
 SETUP = (
     {"do": "add_user", "user": "ana", "privileges": ["publish"]},
