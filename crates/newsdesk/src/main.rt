@@ -22,7 +22,7 @@ use news_io::{FileDisk, Sink, StdClock, StdSink, StdSource, write_all};
 use news_pair::Pair;
 use news_types::{Memory, Name, Text};
 use newsdesk_server::{Setup, open_store, run_serve};
-use program_events::run;
+use program_run::run;
 use progress::{Content, Meter, Watched};
 use run_status::{Status, tell_status};
 use server_doors::TcpDoor;

@@ -1,0 +1,105 @@
+-- What the words of a command do.
+use Rattle.std.specs.Prelude.{◌≡◌, ◌⊎◌, ℕ, List, length, Option, Some, None}
+use Rattle.news_types.specs.declared.query.Query.TheVariants as query
+use Rattle.news_types.specs.declared.words.Format.TheVariants.{Ninjs, Text7901}
+use Rattle.news_types.specs.Frames.{Frame}
+use Rattle.news_types.specs.History.{History}
+use Rattle.news_types.specs.Names.{Bytes}
+use Rattle.news_io.specs.Faults.{Rose}
+use Rattle.news_io.specs.Outside.{Meanings, Outside, FilesTell, read, store_faults}
+use Rattle.command_words.specs.declared.words.Job.{Job}
+use Rattle.command_words.specs.declared.words.Job.TheVariants.{Init, Batch, Ingest, Import, Package, Feed, Queue, Archive, Contents, Drain, Receive, Drill, Check, Pack}
+use Rattle.receiver_files.specs.Log.{Gives}
+use Rattle.room_reports.specs.Written.{IsStopped}
+use Rattle.run_status.specs.declared.status.Status.TheVariants as status
+use Rattle.program_run.specs.Drilled.{IsDrilled}
+use Rattle.program_run.specs.Formats.{Kind, Formats}
+use Rattle.program_run.specs.Imported.{Imported}
+use Rattle.program_run.specs.Looked.{Looked}
+use Rattle.program_run.specs.Made.{IsMade}
+use Rattle.program_run.specs.Left.{GoesOn, GoesOnAs}
+use Rattle.program_run.specs.Members.{InputAnswered, AnswersAll}
+use Rattle.program_run.specs.Opens.{OpenTo}
+use Rattle.program_run.specs.Packed.{IsPacked}
+use Rattle.program_run.specs.Published.{Published}
+use Rattle.program_run.specs.Pushed.{Pushed}
+use Rattle.program_run.specs.Received.{IsReceived}
+use Rattle.program_run.specs.Refused.{NotOpened}
+use Rattle.program_run.specs.Reported.{Reported}
+use Rattle.program_run.specs.Telling.{IsTold, IsAnswered, Unread}
+
+-- the files are not refused for their bytes, and a failure is told only where a count of the disks rose
+pub record IsServed (before now number : ℕ) : Type 0 where
+  pub own : number ≡ 3 → ⊥
+  pub whole : number ≡ 7 → ⊥
+  pub failed : number ≡ 6 → Rose before now
+
+module _ {D S O C L : Type 0} (f : Formats) (m : Meanings D S O C L) (before after : Outside D S O C L) where
+  -- the words are no command: nothing but the output has changed
+  pub record IsUsage (number : ℕ) : Type 0 where
+    pub log : after.log ≡ before.log
+    pub side : after.side ≡ before.side
+    pub unread : Unread before after
+    pub told : IsStopped m.sink status.Usage before.output after.output number
+
+  -- the members of the input were answered
+  abbrev pub Answers : Kind → ℕ → Type 0
+  Answers kind number = NotOpened f.finders m before after number
+      ⊎ (GoesOn m before after number (λ write w events. InputAnswered kind.input m before after write w number events)
+      × AnswersAll m before after number)
+
+  -- this line was told; or there was no memory for it
+  abbrev pub Tells : Bytes → ℕ → Type 0
+  Tells line number = IsAnswered m.sink line before.output after.output number
+
+  -- the answer to the query on this list was told: what it finds of a page, or where it is no query; or there was no memory
+  abbrev pub Finds : ℕ → Bytes → History → ℕ → Type 0
+  Finds page asked list number =
+      ((answer : Bytes) × f.archive_answer page asked list answer × IsTold m.sink answer before.output after.output number)
+      ⊎ IsStopped m.sink status.Memory before.output after.output number
+
+  -- what is due was pushed, where publications are written as those of this store are
+  abbrev pub Drains : ℕ → Type 0
+  Drains number = NotOpened f.finders m before after number
+      ⊎ GoesOnAs m before after number f.writer (λ write w events. Pushed f m before after number write w events)
+
+  -- what these words do, and with which status they end
+  abbrev pub Does : Option Job → ℕ → Type 0
+  Does None number = IsUsage number
+  Does (Some (Init store)) number = IsMade m before after number store
+  Does (Some Batch) number = Answers f.lines number
+  Does (Some (Ingest Text7901 provider)) number = Answers (f.wire provider) number
+  Does (Some (Ingest Ninjs provider)) number = Answers (f.item provider) number
+  Does (Some (Import caller)) number = Imported f m before after number caller
+  Does (Some (Package caller request)) number = Published f m before after number caller request
+  Does (Some (Feed subscriber first)) number =
+      Reported f m before after number (query.Feed subscriber first) (f.feed_report subscriber first)
+  Does (Some Queue) number = Reported f m before after number query.Queue f.queue_report
+  Does (Some (Archive page asked)) number = Looked f.finders m before after number (λ store list. Finds page asked list number)
+  Does (Some (Contents publication)) number =
+      Looked f.finders m before after number (λ store list. Tells (f.contents_report store publication list) number)
+  Does (Some Drain) number = Drains number
+  Does (Some (Receive name)) number = IsReceived m before after number name
+  Does (Some (Drill stories seed)) number = IsDrilled f m before after number stories seed
+  Does (Some Check) number = Looked f.finders m before after number (λ store list. Tells (f.check_line list) number)
+  Does (Some Pack) number = IsPacked f.finders m before after number
+
+module _ {D S O C L : Type 0} (m : Meanings D S O C L) (before after : Outside D S O C L) where
+  -- of files that open to a list
+  abbrev pub ServesLists : ℕ → Type 0
+  ServesLists number = FilesTell m before → (store : Bytes) (list : History) → length store ≡ 16
+      → OpenTo store (read m before) list → IsServed (store_faults m before) (store_faults m after) number
+
+  -- what each command answers on files that open to a list
+  abbrev pub Serves : Option Job → ℕ → Type 0
+  Serves None number = Unit {0}
+  Serves (Some (Init store)) number = Unit {0}
+  Serves (Some (Receive name)) number = Unit {0}
+  Serves (Some (Drill stories seed)) number = Unit {0}
+  Serves (Some job) number = ServesLists number
+
+  -- what `receive` answers on a file that is empty or holds the receiver's frames
+  abbrev pub ReceiverServes : Option Job → ℕ → Type 0
+  ReceiverServes (Some (Receive name)) number = m.disk.tells before.log → (frames : List Frame)
+      → Gives name (m.disk.seen before.log) frames → IsServed (m.disk.faults before.log) (m.disk.faults after.log) number
+  ReceiverServes job number = Unit {0}
