@@ -1,5 +1,5 @@
 -- Texts of a story without their case.
-use Rattle.std.specs.Prelude.{◌≡◌, ℕ, ◌<◌, List, length, string_bytes, slice_index_or}
+use Rattle.std.specs.Prelude.{◌≡◌, ℕ, ◌<◌, List, length, slice_index_or}
 use Rattle.std.specs.List.{All}
 use Rattle.news_types.specs.declared.story.Story.{Story}
 use Rattle.news_types.specs.Names.{Bytes}
@@ -10,7 +10,7 @@ use Rattle.archive_query.specs.Query.{text_of}
 
 -- it is a text of the story
 pub record IsFold (story : Story) (f : FoldedField) : Type 0 where
-  pub text : string_bytes f.text ≡ folded (text_of f.field story)
+  pub text : f.text.items ≡ folded (text_of f.field story)
 
 -- each of them is
 abbrev pub AreFolds : Story → List FoldedField → Type 0
@@ -24,4 +24,4 @@ pub record HasField (folds : List FoldedField) (field : TextField) (place : ℕ)
 -- the text stands at the place
 pub record IsFoldAt (folds : List FoldedField) (text : Bytes) (place : ℕ) : Type 0 where
   pub inside : place < length folds
-  pub text_is : (d : FoldedField) → string_bytes (slice_index_or folds place d).text ≡ text
+  pub text_is : (d : FoldedField) → (slice_index_or folds place d).text.items ≡ text

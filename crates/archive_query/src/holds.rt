@@ -44,8 +44,8 @@ impl TextTest {
     {
         match self.operator {
             TextOperator::Is => Ok(subject.text(self.field) == self.value.as_str()),
-            TextOperator::Has => subject.has(self.field, self.folded.as_str()),
-            TextOperator::Starts => subject.starts(self.field, self.folded.as_str()),
+            TextOperator::Has => subject.has(self.field, &self.sought),
+            TextOperator::Starts => subject.starts(self.field, self.sought.needle()),
         }
     }
 }

@@ -2,6 +2,7 @@
 #![tactic(auto)]
 
 mod ask;
+mod folds;
 mod holds;
 mod laws;
 mod parsing;

@@ -1,14 +1,14 @@
 //! What a query is asked of.
-ghost use Rattle.std.specs.Prelude.{◌≡◌, ◌<◌, nat_eq, length, IfOk, IfSome, string_bytes, vec_len};
+ghost use Rattle.std.specs.Prelude.{◌≡◌, ◌<◌, nat_eq, IfOk, IfSome, vec_len};
 ghost use Rattle.std.specs.List.{starts_with};
 ghost use Rattle.news_types.specs.declared.story.Story.{Story};
 ghost use Rattle.news_types.specs.Conditions.{folded, has_part};
 ghost use Rattle.archive_query.specs.Query.{text_of, number_of};
 ghost use Rattle.archive_query.specs.Folds.{AreFolds, HasField, IsFoldAt};
 
+use crate::folds::folded_text;
 use crate::words::{NumberField, TextField};
-use caseless::default_case_fold_str;
-use memchr::memmem;
+use memchr::memmem::Finder;
 use news_types::{Kind, Memory, Moment, Story};
 use std::alloc::Global;
 use std::marker::Model;
@@ -17,7 +17,7 @@ use std::marker::Model;
 #[derive(Drop)]
 pub(crate) struct FoldedField {
     pub(crate) field: TextField,
-    pub(crate) text: String,
+    pub(crate) text: Vec<u8>,
 }
 
 /// What a publication has beside its story.
@@ -51,31 +51,11 @@ impl<'a> Model for Subject<'a> {
     ghost invariant = { λ s. AreFolds s.story.now s.folds.items };
 }
 
-/// The text without its case, by full case folding. ASCII is folded byte by byte.
-#[tactic(auto, using(crate::proofs::Folding::lower_folded))]
-pub(crate) fn folded_text(alloc: Global, text: &str) -> Result<String, Memory>
-    ensures { IfOk result (λ t. string_bytes t ≡ folded text.now) }
-{
-    if text.is_ascii() {
-        Ok(text.to_ascii_lowercase(alloc)?)
-    } else {
-        folded_characters(alloc, text)
-    }
-}
-
-/// The same, character by character.
-#[tactic(auto, unfolding(news_types::specs::Conditions::folded))]
-fn folded_characters(alloc: Global, text: &str) -> Result<String, Memory>
-    ensures { IfOk result (λ t. string_bytes t ≡ folded text.now) }
-{
-    Ok(default_case_fold_str(alloc, text)?)
-}
-
 /// Whether the part stands somewhere in the text.
-fn has_part(text: &[u8], part: &[u8]) -> bool
+fn has_part(text: &[u8], part: &Finder<'static>) -> bool
     ensures { result ≡ has_part text.now part.now }
 {
-    memmem::find(text, part).is_some()
+    part.find(text).is_some()
 }
 
 /// Whether the text begins with the part.
@@ -173,20 +153,20 @@ impl<'a> Subject<'a> {
     }
 
     /// Whether a text of it has the folded part somewhere, without its case.
-    pub(crate) fn has(&mut self, field: TextField, part: &str) -> Result<bool, Memory>
+    pub(crate) fn has(&mut self, field: TextField, part: &Finder<'static>) -> Result<bool, Memory>
         ensures value { IfOk result (λ holds. holds ≡ has_part (folded (text_of field self.old.story)) part.now) }
         ensures same { self.new ≡ self.old }
     {
         let place = fold_once(self.alloc, &mut self.folds, field, self.story)?;
-        Ok(has_part(self.folds[place].text.as_bytes(), part.as_bytes()))
+        Ok(has_part(self.folds[place].text.as_slice(), part))
     }
 
     /// Whether a text of it begins with the folded part, without its case.
-    pub(crate) fn starts(&mut self, field: TextField, part: &str) -> Result<bool, Memory>
+    pub(crate) fn starts(&mut self, field: TextField, part: &[u8]) -> Result<bool, Memory>
         ensures value { IfOk result (λ holds. holds ≡ starts_with nat_eq (folded (text_of field self.old.story)) part.now) }
         ensures same { self.new ≡ self.old }
     {
         let place = fold_once(self.alloc, &mut self.folds, field, self.story)?;
-        Ok(begins_with(self.folds[place].text.as_bytes(), part.as_bytes()))
+        Ok(begins_with(self.folds[place].text.as_slice(), part))
     }
 }

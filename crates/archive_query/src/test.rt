@@ -1,20 +1,21 @@
 //! Tests of publications.
-ghost use Rattle.std.specs.Prelude.{◌≡◌, IfOk, string_bytes};
+ghost use Rattle.std.specs.Prelude.{◌≡◌, IfOk};
 ghost use Rattle.archive_query.specs.Sought.{folded_value};
 
-use crate::subject::folded_text;
+use crate::folds::folded_text;
 use crate::words::{NumberField, NumberOperator, TextField, TextOperator};
+use memchr::memmem::Finder;
 use news_types::{Kind, Memory, Text};
 use std::alloc::Global;
 
-/// A test of a text, with what is sought. What is compared without case is folded once.
+/// A test of a text, with what is sought. What is compared without case is folded once, and made ready to be found.
 #[derive(Drop)]
 pub struct TextTest {
     pub(crate) field: TextField,
     pub(crate) operator: TextOperator,
     pub(crate) value: Text,
-    pub(crate) folded: String,
-    ghost folded_once: { string_bytes folded ≡ folded_value operator value },
+    pub(crate) sought: Finder<'static>,
+    ghost folded_once: { sought ≡ folded_value operator value },
 }
 
 /// A test of a publication.
@@ -42,14 +43,15 @@ impl TextTest {
         ensures value { IfOk result (λ test. test.value ≡ value) }
     {
         let folded = match operator {
-            TextOperator::Is => String::new(alloc),
+            TextOperator::Is => Vec::new(alloc),
             TextOperator::Has | TextOperator::Starts => folded_text(alloc, value.as_str())?,
         };
+        let sought = Finder::new(folded.as_slice()).into_owned(alloc)?;
         Ok(TextTest {
             field,
             operator,
             value,
-            folded,
+            sought,
         })
     }
 }
