@@ -4,12 +4,16 @@ use Rattle.std.proofs.lemmas.List.{take_all}
 use Rattle.std.specs.Option.{option_map}
 use Rattle.news_types.specs.Names.{Bytes, same}
 use Rattle.command_words.specs.Words.{long_job, wide_job, job_by, names}
-use Rattle.command_words.specs.declared.words.Job.TheVariants.{Init}
+use Rattle.command_words.specs.declared.words.Job.TheVariants.{Init, StandIn}
 
 -- an identifier that is none asks for nothing
 pub no_job : (o : Option (List ℕ)) → ((u : List ℕ) × (o ≡ Some u) → ⊥) → None ≡ option_map Init o
 no_job None none = refl
 no_job (Some u) none = absurd (none (u, refl))
+
+pub no_standby : (o : Option (List ℕ)) → ((u : List ℕ) × (o ≡ Some u) → ⊥) → None ≡ option_map StandIn o
+no_standby None none = refl
+no_standby (Some u) none = absurd (none (u, refl))
 
 -- one word behind the store
 pub by_one : (verb : Bytes) (words : List Bytes) → 1 ≤ length words → length words < 2 → (identifier : Bytes) → identifier ≡ get_or words 0 identifier → long_job verb identifier ≡ job_by verb words

@@ -9,7 +9,7 @@ use Rattle.news_types.specs.declared.words.Format.{Format}
 use Rattle.news_types.specs.declared.words.Format.TheVariants.{Ninjs, Text7901}
 use Rattle.news_types.specs.Names.{Bytes, same, is_name}
 use Rattle.command_words.specs.declared.words.Job.{Job}
-use Rattle.command_words.specs.declared.words.Job.TheVariants.{Init, Batch, Ingest, Import, Package, Feed, Queue, Archive, Contents, Drain, Receive, Drill, Check, Pack}
+use Rattle.command_words.specs.declared.words.Job.TheVariants.{Init, Batch, Ingest, Import, Package, Feed, Queue, Archive, Contents, Drain, Receive, Ship, StandIn, Drill, Check, Pack}
 use Rattle.command_words.specs.declared.options.Options.{Options}
 use Rattle.command_words.specs.declared.serving.Serving.{Serving}
 
@@ -65,7 +65,8 @@ long_job verb word =
     else (if same verb (codes "receive") then option_map Receive (name_of word)
     else (if same verb (codes "import") then option_map Import (name_of word)
     else (if same verb (codes "contents") then option_map Contents (number_of word)
-    else None)))
+    else (if same verb (codes "stand-in") then option_map StandIn (parsed word)
+    else None))))
 
 -- to report a subscriber's feed behind its first entries, so many
 abbrev pub feed_of : Option Bytes → Option ℕ → Option Job
@@ -82,6 +83,11 @@ abbrev pub archive_of : Option ℕ → Bytes → Option Job
 archive_of (Some page) query = Some (Archive page query)
 archive_of None query = None
 
+-- to ship what a store holds to the standby of this name, which is at an address
+abbrev pub ship_of : Option Bytes → Bytes → Option Job
+ship_of (Some name) address = if is_option address then None else Some (Ship name)
+ship_of None address = None
+
 -- of four words
 abbrev pub wide_job : Bytes → Bytes → Bytes → Option Job
 wide_job verb first second =
@@ -89,7 +95,8 @@ wide_job verb first second =
     else (if same verb (codes "package") then package_of (name_of first) (seed_of second)
     else (if same verb (codes "feed") then feed_of (name_of first) (number_of second)
     else (if same verb (codes "archive") then archive_of (number_of first) second
-    else None)))
+    else (if same verb (codes "ship") then ship_of (name_of first) second
+    else None))))
 
 -- one of these pairs has this name
 abbrev pub names : List Bytes → Bytes → Bool
@@ -124,7 +131,8 @@ job_by verb words = None
 
 -- `init STORE UUID`, `batch STORE`, `ingest STORE FORMAT PROVIDER`, `import STORE CALLER`, `package STORE CALLER NUMBER`,
 -- `feed STORE SUBSCRIBER AFTER`, `queue STORE`, `archive STORE PAGE QUERY`, `contents STORE PUBLICATION`, `drain STORE` with pairs of a NAME and an
--- ADDRESS, `receive STORE NAME`, `check STORE`, `pack STORE` and `drill N SEED`; a store and an address are any words but an option
+-- ADDRESS, `receive STORE NAME`, `ship STORE NAME ADDRESS`, `stand-in STORE UUID`, `check STORE`, `pack STORE` and `drill N SEED`; a store
+-- and an address are any words but an option
 abbrev pub job_of : List Bytes → Option Job
 job_of (verb ∷ first ∷ words) =
     if is_option first then None
@@ -134,36 +142,54 @@ job_of (verb ∷ first ∷ words) =
 job_of words = None
 
 abbrev pub no_options : Options
-no_options = record { waits = false; beside = false; key = None }
+no_options = record { waits = false; beside = false; key = None; every = None }
 
--- how many words `--key` and its FILE are
-abbrev pub key_count : Option ℕ → ℕ
-key_count (Some place) = 2
-key_count None = 0
+-- how many words an option and its value are, where it is given
+abbrev pub pair_count : Option ℕ → ℕ
+pair_count (Some value) = 2
+pair_count None = 0
 
 -- how many words they are
 abbrev pub options_count : Options → ℕ
-options_count found = (if found.waits then 1 else 0) + (if found.beside then 1 else 0) + key_count found.key
+options_count found = (if found.waits then 1 else 0) + (if found.beside then 1 else 0) + pair_count found.key + pair_count found.every
 
 -- these, and `--key` and its FILE behind them: the command's name is word 0, and the options follow it
 abbrev pub with_key : Options → Options
-with_key found = record { waits = found.waits; beside = found.beside; key = Some (options_count found + 2) }
+with_key found = record { waits = found.waits; beside = found.beside; key = Some (options_count found + 2); every = found.every }
+
+-- these, and `--every` and its SECONDS behind them
+abbrev pub with_every : Options → Option ℕ → Options
+with_every found seconds = record { waits = found.waits; beside = found.beside; key = found.key; every = seconds }
+
+-- from 1 to 86400 seconds
+abbrev pub seconds_of : Option ℕ → Option ℕ
+seconds_of (Some seconds) = if nat_lt 0 seconds && nat_le seconds 86400 then Some seconds else None
+seconds_of None = None
+
+-- what the next word may be: an option; or the value of the one before it
+pub data Next : Type 0 where
+  Any : Next
+  File : Next
+  Seconds : Next
 
 -- the options at the front of these words, behind those that were found: each at most once. Behind `--key` the first word is its FILE: any
--- word but an option
-abbrev pub options_behind : Options → Bool → List Bytes → Option Options
-options_behind found false [] = Some found
-options_behind found true [] = None
-options_behind found true (file ∷ words) = if is_option file then None else options_behind (with_key found) false words
-options_behind found false (word ∷ words) =
-    if same word (codes "--wait") then (if found.waits then None else options_behind (record { waits = true; beside = found.beside; key = found.key }) false words)
-    else (if same word (codes "--beside") then (if found.beside then None else options_behind (record { waits = found.waits; beside = true; key = found.key }) false words)
-    else (if same word (codes "--key") then (if is_some found.key then None else options_behind found true words)
-    else Some found))
+-- word but an option. Behind `--every` it is its SECONDS
+abbrev pub options_behind : Options → Next → List Bytes → Option Options
+options_behind found Any [] = Some found
+options_behind found File [] = None
+options_behind found Seconds [] = None
+options_behind found File (file ∷ words) = if is_option file then None else options_behind (with_key found) Any words
+options_behind found Seconds (word ∷ words) = if is_some (seconds_of (number_of word)) then options_behind (with_every found (seconds_of (number_of word))) Any words else None
+options_behind found Any (word ∷ words) =
+    if same word (codes "--wait") then (if found.waits then None else options_behind (record { waits = true; beside = found.beside; key = found.key; every = found.every }) Any words)
+    else (if same word (codes "--beside") then (if found.beside then None else options_behind (record { waits = found.waits; beside = true; key = found.key; every = found.every }) Any words)
+    else (if same word (codes "--key") then (if is_some found.key then None else options_behind found File words)
+    else (if same word (codes "--every") then (if is_some found.every then None else options_behind found Seconds words)
+    else Some found)))
 
 -- the options of a command: they stand directly behind its name
 abbrev pub options_of : List Bytes → Option Options
-options_of (verb ∷ words) = options_behind no_options false words
+options_of (verb ∷ words) = options_behind no_options Any words
 options_of [] = None
 
 -- what a server is to do: where it listens, how many workers push the feeds, and the names and addresses of the receivers by turns

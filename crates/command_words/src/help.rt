@@ -52,6 +52,14 @@ const RECEIVE: &str =
     "newsdesk receive STORE NAME             take the frames of standard input as the receiver of this name, keep them, and write a receipt for each
 ";
 
+const SHIP: &str =
+    "newsdesk ship STORE NAME ADDRESS        send the records of the list to the standby of this name, with its host and port, until it has them all; with --every SECONDS directly behind ship it goes on, beside a server too, with what is new
+";
+
+const STAND_IN: &str =
+    "newsdesk stand-in STORE UUID            take the records of standard input as the standby of the store of this identifier, keep them, and write behind each how many there are
+";
+
 const CHECK: &str =
     "newsdesk check STORE                    open the log, and say how many entries and publications it holds
 ";
@@ -68,8 +76,9 @@ const TAIL: &str = "newsdesk --help                         say this
 newsdesk COMMAND --help                 say the line of one command
 newsdesk --version                      say the version
 
-Options stand directly behind COMMAND: with --wait it waits for a STORE that another program has, with --beside check, archive and
-contents read one that is being served, and `serve --key FILE STORE ..` answers only who sends the first line of FILE as the header X-Key.
+Options stand directly behind COMMAND: with --wait it waits for a STORE that another program has, with --beside check, archive,
+contents and ship read one that is being served, `ship --every SECONDS STORE ..` ships what is new each so many seconds until it is
+ended, and `serve --key FILE STORE ..` answers only who sends the first line of FILE as the header X-Key.
 
 A line of `batch` is a request, as
   {\"by\":\"admin\",\"number\":1,\"do\":\"add_subscriber\",\"subscriber\":\"alpha\",\"format\":\"ninjs\",\"products\":[\"all\"]}
@@ -78,16 +87,16 @@ or a question, as
   {\"ask\":\"feed\",\"subscriber\":\"alpha\",\"after\":0}
 
 Exit status: 0 all was answered, 2 usage, 3 wrong store, 4 read fault, 5 write fault, 6 store fault,
-7 damaged log or side, 8 log or side full, 9 out of memory, 10 link fault, 11 no receipt, 12 input too long, 13 no frame,
-14 no head of a table, 15 another program has the store. A status other than 0 and 5 is written
+7 damaged log or side, 8 log or side full, 9 out of memory, 10 link fault, 11 no receipt or no reply of a standby, 12 input too
+long, 13 no frame or no record, 14 no head of a table, 15 another program has the store. A status other than 0 and 5 is written
 to the output too, as {\"status\":7} with the place of the damage.
 ";
 
 /// How the program is used, for `--help`: texts, to be written one behind the other. Each command has a line.
-pub fn help_texts() -> [&'static str; 17] {
+pub fn help_texts() -> [&'static str; 19] {
     [
         HEAD, INIT, BATCH, INGEST, IMPORT, PACKAGE, FEED, QUEUE, ARCHIVE, CONTENTS, DRAIN, SERVE,
-        RECEIVE, CHECK, PACK, DRILL, TAIL,
+        RECEIVE, SHIP, STAND_IN, CHECK, PACK, DRILL, TAIL,
     ]
 }
 
@@ -106,6 +115,8 @@ pub fn command_help(command: &str) -> Option<&'static str> {
         "drain" => Some(DRAIN),
         "serve" => Some(SERVE),
         "receive" => Some(RECEIVE),
+        "ship" => Some(SHIP),
+        "stand-in" => Some(STAND_IN),
         "check" => Some(CHECK),
         "pack" => Some(PACK),
         "drill" => Some(DRILL),

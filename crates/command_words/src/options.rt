@@ -1,10 +1,13 @@
 //! The options of a command.
-ghost use Rattle.std.specs.Prelude.{◌≡◌, ◌≤◌, false};
-ghost use Rattle.command_words.specs.Words.{no_options, options_count, options_of};
+ghost use Rattle.std.specs.Prelude.{◌≡◌, ◌≤◌, Some};
+ghost use Rattle.command_words.specs.Words.{Any, no_options, number_of, options_count, options_of, seconds_of};
 ghost use Rattle.command_words.specs.Words as spec;
 
-use crate::words::is_option;
+use crate::words::{is_option, read_number};
 use news_types::Text;
+
+/// The most seconds between two times: a day.
+const MOST_SECONDS: u32 = 86400;
 
 /// What stands between a command's name and its other words.
 #[derive(Clone, Copy, Debug, PartialEq, Eq)]
@@ -15,6 +18,8 @@ pub struct Options {
     pub beside: bool,
     /// `--key FILE`: the place of FILE among the words, the first of which is 0.
     pub key: Option<usize>,
+    /// `--every SECONDS`: the command begins anew behind so many seconds, 1 to 86400.
+    pub every: Option<u32>,
 }
 
 /// The options of these words, which stand directly behind the command's name, in any order: nothing where one stands twice.
@@ -29,7 +34,7 @@ pub fn read_options(words: &[Text]) -> Option<Options>
 
 /// The options at the front of these words, behind those that were found.
 fn options_behind(words: &[Text], found: Options) -> Option<Options>
-    ensures { result ≡ spec.options_behind found false words.now }
+    ensures { result ≡ spec.options_behind found Any words.now }
 {
     let [word, words @ ..] = words else {
         return Some(found);
@@ -38,6 +43,7 @@ fn options_behind(words: &[Text], found: Options) -> Option<Options>
         "--wait" if found.waits => None,
         "--beside" if found.beside => None,
         "--key" if found.key.is_some() => None,
+        "--every" if found.every.is_some() => None,
         "--wait" => options_behind(
             words,
             Options {
@@ -58,8 +64,26 @@ fn options_behind(words: &[Text], found: Options) -> Option<Options>
             }
             _ => None,
         },
+        "--every" => match words {
+            [seconds, words @ ..] => {
+                let seconds = read_seconds(seconds.as_str())?;
+                options_behind(words, found.with_every(seconds))
+            }
+            _ => None,
+        },
         _ => Some(found),
     }
+}
+
+/// How many seconds the word asks for, if it is a number from 1 to 86400.
+fn read_seconds(word: &str) -> Option<u32>
+    ensures { result ≡ seconds_of (number_of word.now) }
+{
+    let seconds = read_number(word)?;
+    if seconds == 0 || seconds > MOST_SECONDS {
+        return None;
+    }
+    Some(seconds)
 }
 
 impl Options {
@@ -71,19 +95,24 @@ impl Options {
             waits: false,
             beside: false,
             key: None,
+            every: None,
         }
     }
 
     /// How many words they are.
     pub fn count(self) -> usize
         ensures count { result ≡ options_count self }
-        ensures few { result ≤ 4 }
+        ensures few { result ≤ 6 }
     {
         let key = match self.key {
             Some(_) => 2,
             None => 0,
         };
-        self.waits as usize + self.beside as usize + key
+        let every = match self.every {
+            Some(_) => 2,
+            None => 0,
+        };
+        self.waits as usize + self.beside as usize + key + every
     }
 
     /// These, and `--key` and its FILE behind them.
@@ -92,6 +121,15 @@ impl Options {
     {
         Options {
             key: Some(self.count() + 2),
+            ..self
+        }
+    }
+    /// These, and `--every` and so many seconds behind them.
+    fn with_every(self, seconds: u32) -> Options
+        ensures { result ≡ spec.with_every self (Some seconds) }
+    {
+        Options {
+            every: Some(seconds),
             ..self
         }
     }

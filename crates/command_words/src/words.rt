@@ -4,8 +4,8 @@ ghost use Rattle.std.specs.Char.{is_ascii_digit};
 ghost use Rattle.std.specs.List.{list_all};
 ghost use Rattle.std.specs.Option.{option_map};
 ghost use Rattle.uuid.specs.Text.{parsed};
-ghost use Rattle.command_words.specs.declared.words.Job.TheVariants.{Contents, Import, Init, Receive};
-ghost use Rattle.command_words.specs.Words.{archive_of, drill_of, feed_of, format_of, ingest_of, job_of, name_of, number_of, package_of, seed_of};
+ghost use Rattle.command_words.specs.declared.words.Job.TheVariants.{Contents, Import, Init, Receive, StandIn};
+ghost use Rattle.command_words.specs.Words.{archive_of, drill_of, feed_of, format_of, ingest_of, job_of, name_of, number_of, package_of, seed_of, ship_of};
 ghost use Rattle.command_words.specs.Words as spec;
 
 use crate::word::Word;
@@ -40,6 +40,10 @@ pub enum Job<'a> {
     Drain,
     /// To take the frames of the input as the receiver of this name.
     Receive(Name),
+    /// To ship the records of the list to the standby of this name.
+    Ship(Name),
+    /// To take the records of the input as the standby of this store.
+    StandIn(Uuid),
     /// To drill a newsroom in memory with so many stories, drawn from this seed.
     Drill { stories: u32, seed: u64 },
     /// To open the log, and tell what it holds.
@@ -174,6 +178,9 @@ fn long_job<'a>(verb: &str, word: &str) -> Option<Job<'a>>
     if verb == "contents" {
         return contents_job(word);
     }
+    if verb == "stand-in" {
+        return stand_in_job(word);
+    }
     None
 }
 
@@ -183,6 +190,16 @@ fn init_job<'a>(identifier: &str) -> Option<Job<'a>>
 {
     match Uuid::parse_str(identifier) {
         Ok(store) => Some(Job::Init(store)),
+        Err(_) => None,
+    }
+}
+
+/// To take records as the standby of the store that this identifies, if it does.
+fn stand_in_job<'a>(identifier: &str) -> Option<Job<'a>>
+    ensures { result ≡ option_map StandIn (parsed identifier.now) }
+{
+    match Uuid::parse_str(identifier) {
+        Ok(store) => Some(Job::StandIn(store)),
         Err(_) => None,
     }
 }
@@ -217,6 +234,7 @@ fn wide_job<'a>(verb: &str, first: &str, second: &'a Text) -> Option<Job<'a>>
         "package" => package_job(first, second.as_str()),
         "feed" => feed_job(first, second.as_str()),
         "archive" => archive_job(first, second),
+        "ship" => ship_job(first, second.as_str()),
         _ => None,
     }
 }
@@ -259,6 +277,17 @@ fn archive_job<'a>(page: &str, query: &'a Text) -> Option<Job<'a>>
         page: read_number(page)?,
         query: Word::of(query),
     })
+}
+
+/// To ship records to the standby of this name, if it is one, and the second word may be an address.
+fn ship_job<'a>(name: &str, address: &str) -> Option<Job<'a>>
+    ensures { result ≡ ship_of (name_of name.now) address.now }
+{
+    let name = Name::read(name)?;
+    if is_option(address) {
+        return None;
+    }
+    Some(Job::Ship(name))
 }
 
 /// The format of what comes in, if the word is one.

@@ -1,6 +1,7 @@
 //! Sessions at a desk, over stores in memory and at moments that the input names: prints what the commands write.
 //!
-//! - `= new` ends the command before it, and begins a new store.
+//! - `= new` ends the command before it, and begins a new store, which has a standby without files.
+//! - `= over` ends the command before it, and lets the store and its standby change places.
 //! - `@ M` ends the command before it; from here on the clock shows M, in seconds since 1970-01-01T00:00:00Z.
 //! - `# text` ends the command before it, and is printed as it is.
 //! - `$ WORDS` ends the command before it, and begins one of these words; `$ ` alone begins one without a word. The last word stands
@@ -11,6 +12,7 @@
 //! - `< log` and `< side` end the command before them, and print the bytes of that file as a text.
 //! - `~ PLACE TEXT;PLACE TEXT` ends the command before it, and checks the store with the bytes of each text in the log from its
 //!   place on. The log itself stays as it is.
+//! - `passed` ends the command before it, and prints as texts what was sent to the standby (`>`) and answered (`<`) since the last one.
 //! - `bytes N` ends the command before it, and prints as a text what that command put into the log, from the gate on behind which
 //!   it was put, but no more than N bytes.
 //! - Each other line is one of the command's input; without words the command is a batch.
@@ -19,11 +21,13 @@
 //! answer is.
 #![tactic(auto)]
 
+mod standby;
 mod texts;
 
-use news_io::{MemoryClock, MemoryDisk, MemorySink, MemorySource, UnreachableLink};
-use news_types::{Memory, Text};
+use news_io::{MemoryClock, MemoryDisk, MemorySink, MemorySource};
+use news_types::{Memory, Name, Names, Text};
 use newsdesk_cli::run;
+use standby::{Standby, StandbyLink};
 use std::alloc::Global;
 use std::io::{self, ErrorKind, Write};
 use std::mem;
@@ -49,6 +53,8 @@ struct Session {
     alloc: Global,
     log: MemoryDisk,
     side: MemoryDisk,
+    /// The store's standby, to which `ship` has a link.
+    standby: Standby,
     /// What the clock shows, in seconds since 1970-01-01T00:00:00Z.
     moment: u64,
     /// The command's words, if they were given.
@@ -66,6 +72,7 @@ impl Session {
             alloc,
             log: MemoryDisk::new(alloc),
             side: MemoryDisk::new(alloc),
+            standby: Standby::new(alloc),
             moment: 0,
             words: None,
             input: Vec::new(alloc),
@@ -79,7 +86,7 @@ impl Session {
         match form {
             "%" => self.add_bytes(rest),
             "*" => self.add_repeated(rest),
-            "#" | "@" | "=" | "$" | "log" | "side" | "<" | "~" | "bytes" => {
+            "#" | "@" | "=" | "$" | "log" | "side" | "<" | "~" | "passed" | "bytes" => {
                 self.end_command(rt)?;
                 self.take_between(rt, line, form, rest)
             }
@@ -98,12 +105,14 @@ impl Session {
         match form {
             "#" => println!(rt; "{line}"),
             "@" => self.set_clock(rest),
+            "=" if rest == "over" => self.go_over(),
             "=" => self.begin_store(rt),
             "$" => self.begin_command(rest),
             "log" => self.set_log(rest),
             "side" => self.set_side(rest),
             "<" => self.print_file(rt, rest),
             "~" => self.check_patched(rt, rest),
+            "passed" => io::writer(rt).write_all(&self.standby.take_passed()),
             _ => self.print_bytes(rt, rest),
         }
     }
@@ -157,9 +166,17 @@ impl Session {
         Ok(())
     }
 
+    /// The store and its standby change places.
+    fn go_over(&mut self) -> io::Result<()> {
+        mem::swap(&mut self.log, &mut self.standby.log);
+        mem::swap(&mut self.side, &mut self.standby.side);
+        Ok(())
+    }
+
     fn begin_store<R: Print>(&mut self, rt: &R) -> io::Result<()> {
         self.log = MemoryDisk::new(self.alloc);
         self.side = MemoryDisk::new(self.alloc);
+        self.standby = Standby::new(self.alloc);
         let words = words_of(self.alloc, INIT)?;
         self.print_command(rt, &words, Vec::new(self.alloc))
     }
@@ -218,7 +235,7 @@ impl Session {
         let mut input = MemorySource::new(input);
         let mut output = MemorySink::new(self.alloc);
         let mut clock = MemoryClock::new(vec![in self.alloc; self.moment]?);
-        let mut links: Vec<UnreachableLink> = Vec::new(self.alloc);
+        let mut links = self.links_for(words)?;
         self.gate = self.log.as_bytes().len().saturating_sub(1);
         let log = mem::replace(&mut self.log, MemoryDisk::new(self.alloc));
         let side = mem::replace(&mut self.side, MemoryDisk::new(self.alloc));
@@ -234,7 +251,26 @@ impl Session {
         );
         self.log = log;
         self.side = side;
+        if let Some(link) = links.pop() {
+            self.standby = link.into_standby();
+        }
         Ok(output)
+    }
+
+    /// The links that a command has: `ship` has one to the standby, whose name it says.
+    fn links_for(&mut self, words: &[Text]) -> Result<Vec<StandbyLink>, Memory> {
+        let mut links = Vec::new(self.alloc);
+        if let [verb, _, name, ..] = words {
+            if verb.as_str() == "ship" {
+                let mut names = Vec::new(self.alloc);
+                if let Some(name) = Name::read(name.as_str()) {
+                    names.push(name)?;
+                }
+                let standby = mem::replace(&mut self.standby, Standby::new(self.alloc));
+                links.push(StandbyLink::new(Names::of(names), standby))?;
+            }
+        }
+        Ok(links)
     }
 }
 

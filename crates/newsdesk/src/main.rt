@@ -8,10 +8,12 @@ ghost use Rattle.news_room.specs.Stands.{SomeBook};
 
 mod descriptors;
 mod key;
+mod shipping;
 mod store;
 
 use crate::descriptors::hold_descriptors;
 use crate::key::read_key;
+use crate::shipping::ship_each;
 use crate::store::{Keeping, keeping_of, open_files};
 use command_words::{
     Options, Serving, command_help, help_texts, read_options, read_serving, read_words,
@@ -53,7 +55,14 @@ fn main(rt: HostRuntime) -> ExitCode {
         return ExitCode::from(tell_status(&mut output, Status::Usage));
     };
     let Some(serving) = read_serving(&words) else {
-        return ExitCode::from(start(&rt, alloc, &words, options, &mut output, shows));
+        let status = match (options.every, link_to(&rt, alloc, linked_by(&words))) {
+            (_, Err(Memory)) => tell_status(&mut output, Status::Memory),
+            (None, Ok(link)) => start(&rt, alloc, &words, options, &mut output, link, shows),
+            (Some(seconds), Ok(link)) => {
+                ship_each(&rt, alloc, &words, options, seconds, &mut output, link)
+            }
+        };
+        return ExitCode::from(status);
     };
     let status = match server_of(&rt, alloc, &words, options, key, serving) {
         Ok(setup) => run_serve(&rt, alloc, setup, &mut output).status.number(),
@@ -109,7 +118,7 @@ fn words_of<R: Env + AllocGlobal>(rt: &R) -> Result<Vec<Text>, NoWords> {
     Ok(words)
 }
 
-/// Does what the words ask for, but for `serve`.
+/// Does what the words ask for once, but for `serve`, over a link to the receivers that they name.
 fn start<
     R: Files<File = File>
         + Net<Stream = TcpStream>
@@ -120,7 +129,15 @@ fn start<
         + Clone
         + Drop,
     O: Sink,
->(rt: &R, alloc: Global, words: &[Text], options: Options, output: &mut O, shows: bool) -> u8 {
+>(
+    rt: &R,
+    alloc: Global,
+    words: &[Text],
+    options: Options,
+    output: &mut O,
+    link: TcpLink<R>,
+    shows: bool,
+) -> u8 {
     if words.len() == 1 {
         match words[0].as_str() {
             "--help" => return say(output, &help_texts()),
@@ -141,7 +158,7 @@ fn start<
         return tell_status(output, Status::Usage);
     }
     match open_files(rt, alloc, words, keeping, options) {
-        Ok((log, side)) => match run_words(rt, alloc, words, output, log, side, shows) {
+        Ok((log, side)) => match run_words(rt, alloc, words, output, log, side, link, shows) {
             Ok(status) => status,
             Err(Memory) => tell_status(output, Status::Memory),
         },
@@ -193,6 +210,7 @@ fn run_words<
     output: &mut O,
     log: FileDisk<R>,
     side: FileDisk<R>,
+    link: TcpLink<R>,
     shows: bool,
 ) -> Result<u8, Memory> {
     let mut input = Watched::new(
@@ -207,7 +225,7 @@ fn run_words<
     let log = Watched::new(log, meter(rt, shows, Content::Binary)?);
     let side = Watched::new(side, None);
     let mut links = Vec::new(alloc);
-    links.push(link_to(rt, alloc, drained_by(words))?)?;
+    links.push(link)?;
     let (status, log, _) = run(
         alloc, words, &mut input, output, log, side, &mut clock, &mut links,
     );
@@ -244,7 +262,7 @@ fn server_of<
     ensures stands { IfOk result (λ setup. SomeBook (pair_of file_disk) setup.room) }
     ensures clocks { IfOk result (λ setup. vec_len setup.clocks ≡ vec_len setup.links + 1) }
 {
-    if !Keeping::Writes.allows(options) {
+    if options.every.is_some() || !Keeping::Writes.allows(options) {
         return Err(Status::Usage);
     }
     let key = match key {
@@ -297,10 +315,10 @@ fn link_to<R: Net<Stream = TcpStream> + Clone + Drop>(
     TcpLink::new(alloc, rt.clone()?, receivers_in(alloc, pairs)?)
 }
 
-/// The receivers that a drain names, each with its address; none of another command.
-fn drained_by(words: &[Text]) -> &[Text] {
+/// The receivers that a `drain` names, each with its address, or the standby that a `ship` names; none of another command.
+fn linked_by(words: &[Text]) -> &[Text] {
     match words {
-        [verb, _, pairs @ ..] if verb.as_str() == "drain" => pairs,
+        [verb, _, pairs @ ..] if verb.as_str() == "drain" || verb.as_str() == "ship" => pairs,
         _ => &[],
     }
 }

@@ -6,6 +6,8 @@ pub mod Statuses
 pub mod Still
 pub mod Importing
 pub mod Packaging
+pub mod Links
+pub mod Shipping
 pub mod Serving
 pub mod Reporting
 pub mod Draining

@@ -34,11 +34,9 @@ use Rattle.room_runs.specs.Wires.{of_incoming, wire_hand}
 use Rattle.text7901.specs.Wire.{wire}
 use Rattle.wire_run.specs.Decided.{decided}
 use Rattle.wire_run.specs.Members.{of_found, of_item, one_item, no_item}
-use Rattle.store_files.specs.Store.{Opens, TroubleCounts, IsNotOfBytes}
+use Rattle.store_files.specs.Store.{Opens}
 use Rattle.run_status.specs.Status.{number_of}
 use Rattle.store_files.specs.Trouble.{status_of, trouble_of_pack}
-use Rattle.store_files.specs.declared.trouble.Trouble.{Trouble}
-use Rattle.store_files.specs.declared.trouble.Trouble.TheVariants as trouble
 use Rattle.store_files.proofs.Serving.{served}
 use Rattle.newsdesk_cli.specs.Archive.{IsAsked}
 use Rattle.newsdesk_cli.specs.Command.{check_line, IsServed, Serves, HasAnswered, IsReportOf, IsDrain, Does}
@@ -48,23 +46,16 @@ use Rattle.newsdesk_cli.specs.Packages.{IsPackageOf}
 use Rattle.newsdesk_cli.specs.Telling.{IsTold, IsAnswered}
 use Rattle.newsdesk_cli.specs.Packing.{packed_line}
 use Rattle.command_words.specs.declared.words.Job.{Job}
-use Rattle.command_words.specs.declared.words.Job.TheVariants.{Init, Batch, Ingest, Import, Package, Feed, Queue, Archive, Contents, Drain, Receive, Drill, Check, Pack}
+use Rattle.command_words.specs.declared.words.Job.TheVariants.{Init, Batch, Ingest, Import, Package, Feed, Queue, Archive, Contents, Drain, Receive, Ship, StandIn, Drill, Check, Pack}
 use Rattle.newsdesk_cli.proofs.Commands.{rose_along}
 use Rattle.newsdesk_cli.proofs.Draining.{drain_else, drain_failed}
 use Rattle.newsdesk_cli.proofs.Importing.{import_served}
 use Rattle.newsdesk_cli.proofs.Packaging.{package_served}
 use Rattle.newsdesk_cli.proofs.Reporting.{reported_else}
-use Rattle.newsdesk_cli.proofs.Statuses.{others}
+use Rattle.newsdesk_cli.proofs.Shipping.{over_served}
+use Rattle.newsdesk_cli.proofs.Statuses.{others, by_trouble}
 
 -- ---- statuses
-
-by_trouble : (t : Trouble) (before now status : ℕ) → IsNotOfBytes t → TroubleCounts before now t → status ≡ number_of (status_of t) → IsServed before now status
-by_trouble trouble.WrongStore before now status outside count is = absurd outside
-by_trouble trouble.Store before now status outside count is = others before now 6 status (λ s. absurd (omega (arith, s))) (λ s. absurd (omega (arith, s))) (λ s. count) is
-by_trouble (trouble.Damaged at found) before now status outside count is = absurd outside
-by_trouble (trouble.DamagedSide at found) before now status outside count is = absurd outside
-by_trouble trouble.Full before now status outside count is = absurd outside
-by_trouble trouble.Memory before now status outside count is = others before now 9 status (λ s. absurd (omega (arith, s))) (λ s. absurd (omega (arith, s))) (λ s. absurd (omega (arith, s))) is
 
 by_pack : (why : PackFault) (before now status : ℕ) → (IsDamage why → ⊥) → FaultCounts before now why → status ≡ number_of (status_of (trouble_of_pack why)) → IsServed before now status
 by_pack fault.DiskFault before now status whole counts is = others before now 6 status (λ s. absurd (omega (arith, s))) (λ s. absurd (omega (arith, s))) (λ s. counts.fault tt) is
@@ -163,6 +154,8 @@ module _ {D O S C : Type 0} (disk : DiskMeaning D) (clock : ClockMeaning C) (sou
   serves link l l' (Some Queue) did = reported queue_report_at did.1
   serves link l l' (Some Drain) did = drained link l l' did.1
   serves link l l' (Some (Receive name)) did = tt
+  serves link l l' (Some (Ship name)) did = over_served disk sink link name log log' side side' o o' status told told' store h long opens l l' did.1
+  serves link l l' (Some (StandIn made)) did = tt
   serves link l l' (Some (Drill stories seed)) did = tt
   serves link l l' (Some Check) did = elim did.1 [ inl not ↦ not_opened not | inr done ↦ answer_served sink o o' Before Now status (check_line done.opened.history) done.told ]
   serves link l l' (Some (Archive page query)) did = elim did.1 [ inl not ↦ not_opened not | inr done ↦ asked_served sink o o' Before Now status done.opened.history page query done.told ]

@@ -10,12 +10,25 @@ use Rattle.line_run.specs.declared.ending.Ending.{Ending}
 use Rattle.line_run.specs.declared.ending.Ending.TheVariants as end
 use Rattle.wire_run.specs.Reading.{IsReadThrough}
 use Rattle.run_status.specs.Status.{number_of}
+use Rattle.store_files.specs.Store.{TroubleCounts, IsNotOfBytes}
+use Rattle.store_files.specs.Trouble.{status_of}
+use Rattle.store_files.specs.declared.trouble.Trouble.{Trouble}
+use Rattle.store_files.specs.declared.trouble.Trouble.TheVariants as trouble
 use Rattle.whole_runs.specs.Output.{IsTextTold}
 use Rattle.newsdesk_cli.specs.Command.{IsServed}
 
 -- any other number
 pub others : (before now n status : ℕ) → (n ≡ 3 → ⊥) → (n ≡ 7 → ⊥) → (n ≡ 6 → Rose before now) → status ≡ n → IsServed before now status
 others before now n status own whole failed is = record { own = λ s. own (sym is ∙ s); whole = λ s. whole (sym is ∙ s); failed = λ s. failed (sym is ∙ s) }
+
+-- a trouble that no bytes show
+pub by_trouble : (t : Trouble) (before now status : ℕ) → IsNotOfBytes t → TroubleCounts before now t → status ≡ number_of (status_of t) → IsServed before now status
+by_trouble trouble.WrongStore before now status outside count is = absurd outside
+by_trouble trouble.Store before now status outside count is = others before now 6 status (λ s. absurd (omega (arith, s))) (λ s. absurd (omega (arith, s))) (λ s. count) is
+by_trouble (trouble.Damaged at found) before now status outside count is = absurd outside
+by_trouble (trouble.DamagedSide at found) before now status outside count is = absurd outside
+by_trouble trouble.Full before now status outside count is = absurd outside
+by_trouble trouble.Memory before now status outside count is = others before now 9 status (λ s. absurd (omega (arith, s))) (λ s. absurd (omega (arith, s))) (λ s. absurd (omega (arith, s))) is
 
 -- a text was told at the end
 module _ {O : Type 0} (sink : SinkMeaning O) (text : Bytes) (o o' : O) (status : ℕ) where

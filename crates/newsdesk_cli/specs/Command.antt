@@ -35,6 +35,7 @@ use Rattle.newsdesk_cli.specs.Opened.{NotOpened, IsLook, HasGoneOn, NotBegun}
 use Rattle.newsdesk_cli.specs.Archive.{IsArchive}
 use Rattle.newsdesk_cli.specs.Imports.{IsImportOf}
 use Rattle.newsdesk_cli.specs.Packages.{IsPackageOf, IsContents}
+use Rattle.newsdesk_cli.specs.Standby.{ShipsOver}
 use Rattle.room_runs.specs.Lines.{no_frames, LONGEST_INPUT}
 use Rattle.room_reports.specs.Reports.{IsReport}
 use Rattle.room_reports.specs.Texts.{feed_report_at, queue_report_at}
@@ -45,6 +46,9 @@ use Rattle.newsdesk_cli.specs.Packing.{packed_line, Packs, PacksNot}
 use Rattle.receiver_files.specs.Log.{Gives}
 use Rattle.receiver_files.specs.Receive as receiver
 use Rattle.receiver_files.specs.Receive.{IsReceive}
+use Rattle.standby_files.specs.Opening.{Gives as HeldBy}
+use Rattle.standby_files.specs.StandIn.{IsStandIn}
+use Rattle.standby_files.specs.Telling as standby
 use Rattle.store_files.specs.Files.{FilesHold, CrashKeeps}
 use Rattle.store_files.specs.Store.{IsOpenRoom}
 use Rattle.run_status.specs.Status.{number_of, line_of}
@@ -52,7 +56,7 @@ use Rattle.run_status.specs.declared.status.Status.{Status}
 use Rattle.store_files.specs.Trouble.{trouble_of_pack}
 use Rattle.store_files.specs.declared.trouble.Trouble.TheVariants as trouble
 use Rattle.command_words.specs.declared.words.Job.{Job}
-use Rattle.command_words.specs.declared.words.Job.TheVariants.{Init, Batch, Ingest, Import, Package, Feed, Queue, Archive, Contents, Drain, Receive, Drill, Check, Pack}
+use Rattle.command_words.specs.declared.words.Job.TheVariants.{Init, Batch, Ingest, Import, Package, Feed, Queue, Archive, Contents, Drain, Receive, Ship, StandIn, Drill, Check, Pack}
 
 -- how many entries and publications a list has, as a line
 abbrev pub check_line : History → List ℕ
@@ -218,6 +222,8 @@ module _ {D O S C L : Type 0} (disk : DiskMeaning D) (clock : ClockMeaning C) (s
   Does (Some Queue) = (i' ≡ i) × IsReportOf disk clock sink log log' side side' o o' c c' status queue_report_at
   Does (Some Drain) = (i' ≡ i) × IsDrain disk clock sink log log' side side' o o' c c' status link l l'
   Does (Some (Receive name)) = (c' ≡ c) × (side' ≡ side) × IsReceive disk source sink name log log' i i' o o' status
+  Does (Some (Ship name)) = Unread × ShipsOver disk sink name log log' side side' o o' status link l l'
+  Does (Some (StandIn store)) = (c' ≡ c) × IsStandIn disk source sink store log log' side side' i i' o o' status
   Does (Some (Drill stories seed)) = (i' ≡ i) × (log' ≡ log) × (side' ≡ side) × IsDrilled sink clock stories seed o o' c c' status
   Does (Some (Ingest format provider)) = IsIngest disk clock source sink log log' side side' i i' o o' c c' status format provider
   Does (Some (Import caller)) = IsImportOf disk clock source sink log log' side side' i i' o o' c c' status caller
@@ -243,6 +249,8 @@ Serves before now (Some (Archive page query)) status = IsServed before now statu
 Serves before now (Some (Contents publication)) status = IsServed before now status
 Serves before now (Some Drain) status = IsServed before now status
 Serves before now (Some (Receive name)) status = Unit {0}
+Serves before now (Some (Ship name)) status = IsServed before now status
+Serves before now (Some (StandIn store)) status = Unit {0}
 Serves before now (Some (Drill stories seed)) status = Unit {0}
 Serves before now (Some Check) status = IsServed before now status
 Serves before now (Some Pack) status = IsServed before now status
@@ -251,3 +259,14 @@ Serves before now (Some Pack) status = IsServed before now status
 abbrev pub ReceiverServes : List ℕ → ℕ → ℕ → Option Job → ℕ → Type 0
 ReceiverServes log before now (Some (Receive name)) status = (frames : List Frame) → Gives name log frames → receiver.IsServed before now status
 ReceiverServes log before now job status = Unit {0}
+
+-- what `stand-in` answers on files that are empty or hold the list of its store
+abbrev pub StandbyServes : List ℕ → List ℕ → ℕ → ℕ → Option Job → ℕ → Type 0
+StandbyServes log side before now (Some (StandIn store)) status = (held : List Bytes) → HeldBy store log side held → standby.IsServed before now status
+StandbyServes log side before now job status = Unit {0}
+
+-- the commands that use links
+abbrev pub UsesLinks : Option Job → Type 0
+UsesLinks (Some Drain) = Unit {0}
+UsesLinks (Some (Ship name)) = Unit {0}
+UsesLinks job = ⊥

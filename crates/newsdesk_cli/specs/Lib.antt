@@ -4,5 +4,6 @@ pub mod Opened
 pub mod Archive
 pub mod Imports
 pub mod Packages
+pub mod Standby
 pub mod Command
 pub mod Packing

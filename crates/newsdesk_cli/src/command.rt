@@ -10,8 +10,7 @@ ghost use Rattle.receiver_files.specs.Receive.{IsReceive, IsServed};
 ghost use Rattle.room_reports.specs.Texts.{feed_report_at, queue_report_at};
 ghost use Rattle.store_files.specs.Store.{Opens};
 ghost use Rattle.command_words.specs.Words.{job_of};
-ghost use Rattle.newsdesk_cli.specs.Command.{IsInit, IsBatch, IsIngest, IsReportOf, IsDrain, IsDrilled, IsCheck, IsPack, Does, Serves, ReceiverServes};
-ghost use Rattle.command_words.specs.declared.words.Job.TheVariants.{Drain};
+ghost use Rattle.newsdesk_cli.specs.Command.{IsInit, IsBatch, IsIngest, IsReportOf, IsDrain, IsDrilled, IsCheck, IsPack, Does, Serves, ReceiverServes, StandbyServes, UsesLinks};
 
 use crate::archive::ask_archive;
 use crate::check::check_line;
@@ -19,6 +18,7 @@ use crate::contents::list_contents;
 use crate::import::take_table;
 use crate::pack::tell_packed;
 use crate::package::take_package;
+use crate::standby::ship_list;
 use crate::telling::{tell_trouble, tell_usage};
 use command_words::{Job, read_words};
 use feed_drill::run_drill;
@@ -30,12 +30,13 @@ use receiver_files::receive_frames;
 use room_reports::{tell_feed, tell_queue};
 use room_runs::{answer_input, ingest_input};
 use run_status::tell_status;
+use standby_files::stand_in;
 use std::alloc::Global;
 use store_files::{Trouble, is_empty, open_room};
 use uuid::Uuid;
 
-/// Does what the words ask for, and gives the status and the two disks back, the log's and the side's. Only `drain` uses the
-/// links; for `receive` the log is a receiver's, and `drill` leaves both alone.
+/// Does what the words ask for, and gives the status and the two disks back, the log's and the side's. Only `drain` and `ship` use
+/// the links, `ship` the first one, which has to serve its NAME; for `receive` the log is a receiver's, and `drill` leaves both alone.
 #[tactic(none)]
 pub fn run<S: Source, O: Sink, D: Disk, C: Clock, L: Link>(
     alloc: Global,
@@ -53,7 +54,9 @@ pub fn run<S: Source, O: Sink, D: Disk, C: Clock, L: Link>(
         → Serves (D.disk.faults log + D.disk.faults side) (D.disk.faults result.1 + D.disk.faults result.2) (job_of words.now) result.0 }
     // A receiver's file that is empty or holds its frames is never told to be another's or damaged either.
     ensures receives { D.disk.tells log → ReceiverServes (D.disk.seen log) (D.disk.faults log) (D.disk.faults result.1) (job_of words.now) result.0 }
-    ensures links { (job_of words.now ≡ Some Drain → ⊥) → links.new.items ≡ links.old.items }
+    // So it is with the files of a standby that are empty or hold its store's list.
+    ensures stands_in { D.disk.tells log → D.disk.tells side → StandbyServes (D.disk.seen log) (D.disk.seen side) (D.disk.faults log + D.disk.faults side) (D.disk.faults result.1 + D.disk.faults result.2) (job_of words.now) result.0 }
+    ensures links { (UsesLinks (job_of words.now) → ⊥) → links.new.items ≡ links.old.items }
 {
     let Some(job) = read_words(words) else {
         return (tell_usage(output), log, side);
@@ -75,7 +78,8 @@ fn do_job<S: Source, O: Sink, D: Disk, C: Clock, L: Link>(
 ) -> (u8, D, D)
     ensures does { Does D.disk C.clock S.source O.sink L.link log result.1 side result.2 input.old input.new output.old output.new clock.old clock.new links.old.items links.new.items result.0 (Some job.entry) }
     ensures receives { D.disk.tells log → ReceiverServes (D.disk.seen log) (D.disk.faults log) (D.disk.faults result.1) (Some job.entry) result.0 }
-    ensures links { (job.entry ≡ Drain → ⊥) → links.new.items ≡ links.old.items }
+    ensures stands_in { D.disk.tells log → D.disk.tells side → StandbyServes (D.disk.seen log) (D.disk.seen side) (D.disk.faults log + D.disk.faults side) (D.disk.faults result.1 + D.disk.faults result.2) (Some job.entry) result.0 }
+    ensures links { (UsesLinks (Some job.entry) → ⊥) → links.new.items ≡ links.old.items }
 {
     match job {
         Job::Init(store) => init(output, log, side, store),
@@ -95,6 +99,8 @@ fn do_job<S: Source, O: Sink, D: Disk, C: Clock, L: Link>(
         Job::Contents(publication) => list_contents(alloc, output, log, side, publication),
         Job::Drain => drain(alloc, output, log, side, clock, links),
         Job::Receive(name) => receive(alloc, input, output, log, side, name),
+        Job::Ship(name) => ship_list(alloc, output, log, side, links, name),
+        Job::StandIn(store) => stand_in(alloc, store, input, output, log, side),
         Job::Drill { stories, seed } => drill(alloc, output, log, side, clock, stories, seed),
         Job::Check => check(alloc, output, log, side),
         Job::Pack => pack(alloc, output, log, side),

@@ -8,6 +8,7 @@ mod contents;
 mod import;
 mod pack;
 mod package;
+mod standby;
 mod telling;
 
 pub use command::run;

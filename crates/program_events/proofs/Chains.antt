@@ -32,14 +32,14 @@ use Rattle.newsdesk_cli.specs.FilesLeft.{NoneInDoubt, FilesLeft}
 use Rattle.program_events.specs.Events.{line_input}
 use Rattle.program_events.specs.Stories.{wire_input, item_input}
 use Rattle.program_events.specs.Leads.{IsBegunOf, LeadsOn}
-use Rattle.program_events.specs.Chains.{Did, Init, Batch, Ingest, Import, Package, Feed, Queue, Drain, Check, Archive, Contents, Pack, Run, LeftByRun, MayCrash, IsLeftBy, AreLeft, FollowOneAnother, world, AreOfGoing, Answers, Takes, Publishes, Reports, Pushes, AreOfRun, AreOfRuns, ComesTo, ChainsAreEvents}
+use Rattle.program_events.specs.Chains.{Did, Init, Batch, Ingest, Import, Package, Feed, Queue, Drain, Check, Archive, Contents, Ship, Pack, Run, LeftByRun, MayCrash, IsLeftBy, AreLeft, FollowOneAnother, world, AreOfGoing, Answers, Takes, Publishes, Reports, Pushes, AreOfRun, AreOfRuns, ComesTo, ChainsAreEvents}
 use Rattle.program_events.proofs.Turns.{run_on}
 use Rattle.program_events.proofs.Draining.{drain_happened}
 use Rattle.program_events.proofs.Imports.{import_happened, import_leads}
 use Rattle.program_events.proofs.Packages.{package_happened, package_leads}
 use Rattle.program_events.proofs.Reports.{report_happened}
 use Rattle.program_events.proofs.Runs.{batch_events, wire_events, item_events}
-use Rattle.program_events.proofs.Stores.{one_history, alike, to_both, refused_keeps, init_keeps, init_time, opened_keeps, packed_within, counts_since}
+use Rattle.program_events.proofs.Stores.{one_history, alike, to_both, refused_keeps, init_keeps, init_time, opened_keeps, ship_keeps, ship_time, packed_within, counts_since}
 
 -- ---- a world behind an opening
 
@@ -329,6 +329,9 @@ module _ {D S O C L : Type 0} (disk : DiskMeaning D) (clock : ClockMeaning C) (s
     left_now (Check did) is files may = looked_now (λ v events. subst (λ (d : TheDid). AreOfRun disk clock source sink link v events r d events) (sym is) refl) did files may
     left_now (Archive page query did) is files may = looked_now (λ v events. subst (λ (d : TheDid). AreOfRun disk clock source sink link v events r d events) (sym is) refl) did files may
     left_now (Contents publication did) is files may = looked_now (λ v events. subst (λ (d : TheDid). AreOfRun disk clock source sink link v events r d events) (sym is) refl) did files may
+    left_now (Ship name did) is files may =
+        as_before (λ v events. subst (λ (d : TheDid). AreOfRun disk clock source sink link v events r d events) (sym is) refl) files
+        (ship_keeps disk store long r.log r.side list r.tells r.tells_side from.opens sink link name r.log' r.side' r.output r.output' r.status r.links r.links' did files (counts_since disk r.log r.log' (ship_time disk store long r.log r.side list r.tells r.tells_side from.opens sink link name r.log' r.side' r.output r.output' r.status r.links r.links' did) r.side' files may))
     left_now (Pack (inl refused)) is files may =
         as_before (λ v events. subst (λ (d : TheDid). AreOfRun disk clock source sink link v events r d events) (sym is) refl) files
         (refused_keeps disk store long r.log r.side list r.tells r.tells_side from.opens r.log' r.side' refused.why refused.refused files (counts_since disk r.log r.log' (refused.refused.crash r.tells r.tells_side).later r.side' files may))
@@ -384,6 +387,9 @@ module _ {D S O C L : Type 0} (disk : DiskMeaning D) (clock : ClockMeaning C) (s
     left_then (Check did) is crash files may = looked_then (λ v events. subst (λ (d : TheDid). AreOfRun disk clock source sink link v events r d events) (sym is) refl) did files may
     left_then (Archive page query did) is crash files may = looked_then (λ v events. subst (λ (d : TheDid). AreOfRun disk clock source sink link v events r d events) (sym is) refl) did files may
     left_then (Contents publication did) is crash files may = looked_then (λ v events. subst (λ (d : TheDid). AreOfRun disk clock source sink link v events r d events) (sym is) refl) did files may
+    left_then (Ship name did) is crash files may =
+        as_before (λ v events. subst (λ (d : TheDid). AreOfRun disk clock source sink link v events r d events) (sym is) refl) files
+        (ship_keeps disk store long r.log r.side list r.tells r.tells_side from.opens sink link name r.log' r.side' r.output r.output' r.status r.links r.links' did files may)
     left_then (Pack (inl refused)) is crash files may =
         as_before (λ v events. subst (λ (d : TheDid). AreOfRun disk clock source sink link v events r d events) (sym is) refl) files
         (refused_keeps disk store long r.log r.side list r.tells r.tells_side from.opens r.log' r.side' refused.why refused.refused files may)

@@ -6,6 +6,7 @@ use Rattle.news_types.specs.Names.{Bytes}
 use Rattle.news_types.specs.History.{History}
 use Rattle.entry_codec.specs.Spelling.{entry_bytes}
 use Rattle.news_io.specs.Disk.{DiskMeaning}
+use Rattle.news_io.specs.Link.{LinkMeaning}
 use Rattle.news_io.specs.Sink.{SinkMeaning}
 use Rattle.news_journal.specs.Log.{room_head, header_bytes, opened}
 use Rattle.news_journal.specs.Read.{opened_closed}
@@ -27,6 +28,8 @@ use Rattle.store_files.specs.Store.{IsRefused, IsOpenRoom}
 use Rattle.store_files.specs.declared.trouble.Trouble.{Trouble}
 use Rattle.store_files.proofs.Holding.{stays_keeps, room_holds}
 use Rattle.newsdesk_cli.specs.Command.{IsInit}
+use Rattle.newsdesk_cli.specs.Standby.{ShipsBy, ShipsOver}
+use Rattle.standby_files.specs.Shipping.{IsShip}
 use Rattle.program_events.specs.Chains.{LeftWithin, NewStoresAreEmpty}
 
 -- files open to one list, of one store
@@ -112,6 +115,47 @@ module _ {D : Type 0} (disk : DiskMeaning D) where
         by (inl was) = as_they_were store log side files (disk.only_now log files.0 was, (o.still tells').crash files.1 left.1)
         by (inr (inl may)) = as_they_were store log side files (may, (o.still tells').crash files.1 left.1)
         by (inr (inr now)) = as_seen files o.store o.long o.history (o.bytes tells tells') (now files.1 left.1)
+
+    -- ---- files whose list was shipped
+
+    module _ {O L : Type 0} (sink : SinkMeaning O) (link : LinkMeaning L) (name : Bytes) (log' side' : D) (o o' : O) (status : ℕ) where
+      -- files that nobody touched
+      same_keeps : log' ≡ log → side' ≡ side → (files : Files) → LeftSince disk log' side' (disk.moment log) files → IsAsBefore store log side files
+      same_keeps same same' files left =
+          as_they_were store log side files (disk.only_now log files.0 (subst (λ (d : D). disk.left_since d (disk.moment log) files.0) same left.0), subst (λ (d : D). disk.may_leave d files.1) same' left.1)
+
+      same_time : log' ≡ log → disk.moment log ≤ disk.moment log'
+      same_time same = omega (arith, ap disk.moment same)
+
+      shipped_keeps : (l l' : L) → IsShip disk sink link name log log' side side' o o' l l' status → (files : Files) → LeftSince disk log' side' (disk.moment log) files → IsAsBefore store log side files
+      shipped_keeps l l' (inl not) files left = refused_keeps log' side' not.why not.refused files left
+      shipped_keeps l l' (inr did) files left = by ((did.crash tells tells').nothing_else (disk.moment log) files.0 (omega arith) left.0)
+        where
+          by : disk.left_since log (disk.moment log) files.0 ⊎ (disk.may_leave log files.0 ⊎ ((s : List ℕ) → disk.may_leave side' s → OpenTo did.opened.store (files.0, s) did.opened.history)) → IsAsBefore store log side files
+          by (inl was) = as_they_were store log side files (disk.only_now log files.0 was, (did.still tells').crash files.1 left.1)
+          by (inr (inl may)) = as_they_were store log side files (may, (did.still tells').crash files.1 left.1)
+          by (inr (inr now)) = as_seen files did.opened.store did.opened.long did.opened.history (did.opened.bytes tells tells') (now files.1 left.1)
+
+      shipped_time : (l l' : L) → IsShip disk sink link name log log' side side' o o' l l' status → disk.moment log ≤ disk.moment log'
+      shipped_time l l' (inl not) = (not.refused.crash tells tells').later
+      shipped_time l l' (inr did) = (did.crash tells tells').later
+
+      by_keeps : (l l' : L) → ShipsBy disk sink name log log' side side' o o' status link l l' → (files : Files) → LeftSince disk log' side' (disk.moment log) files → IsAsBefore store log side files
+      by_keeps l l' (inl none) files left = same_keeps none.refused.same none.refused.same_side files left
+      by_keeps l l' (inr ships) files left = shipped_keeps l l' ships files left
+
+      by_time : (l l' : L) → ShipsBy disk sink name log log' side side' o o' status link l l' → disk.moment log ≤ disk.moment log'
+      by_time l l' (inl none) = same_time none.refused.same
+      by_time l l' (inr ships) = shipped_time l l' ships
+
+      pub ship_keeps : (l l' : List L) → ShipsOver disk sink name log log' side side' o o' status link l l' → (files : Files) → LeftSince disk log' side' (disk.moment log) files → IsAsBefore store log side files
+      ship_keeps [] l' none files left = same_keeps none.1.same none.1.same_side files left
+      ship_keeps (l ∷ others) l' ships files left = by_keeps l ships.0 ships.2 files left
+
+      -- and time goes on
+      pub ship_time : (l l' : List L) → ShipsOver disk sink name log log' side side' o o' status link l l' → disk.moment log ≤ disk.moment log'
+      ship_time [] l' none = same_time none.1.same
+      ship_time (l ∷ others) l' ships = by_time l ships.0 ships.2
 
   -- ---- calls that keep a list
 

@@ -31,6 +31,7 @@ use Rattle.world_laws.specs.World.{World, Event, Reopens, happens, after}
 use Rattle.newsdesk_cli.specs.Archive.{IsArchive}
 use Rattle.newsdesk_cli.specs.Imports.{HasTakenTable, IsImportOf}
 use Rattle.newsdesk_cli.specs.Packages.{IsContents, HasTakenPackage, IsPackageOf}
+use Rattle.newsdesk_cli.specs.Standby.{ShipsOver}
 use Rattle.newsdesk_cli.specs.Command.{HasAnswered, HasReported, IsBatch, IsIngest, IsReportOf, HasDrained, IsDrain, IsCheck, IsPack, IsInit, IsMade}
 use Rattle.program_events.specs.Events.{Input, line_input}
 use Rattle.program_events.specs.Stories.{wire_input, item_input}
@@ -69,6 +70,7 @@ module _ {D S O C L : Type 0} (disk : DiskMeaning D) (clock : ClockMeaning C) (s
     Check : IsCheck disk sink log log' side side' o o' status → Did log log' side side' i i' o o' c c' l l' status
     Archive : (page : ℕ) (query : Bytes) → IsArchive disk sink page query log log' side side' o o' status → Did log log' side side' i i' o o' c c' l l' status
     Contents : (publication : ℕ) → IsContents disk sink publication log log' side side' o o' status → Did log log' side side' i i' o o' c c' l l' status
+    Ship : (name : Bytes) → ShipsOver disk sink name log log' side side' o o' status link l l' → Did log log' side side' i i' o o' c c' l l' status
     Pack : IsPack disk sink log log' side side' o o' status → Did log log' side side' i i' o o' c c' l l' status
 
   -- a run on files that tell what they hold; and what a crash left of them, where one came within the run or behind it
@@ -114,6 +116,7 @@ module _ {D S O C L : Type 0} (disk : DiskMeaning D) (clock : ClockMeaning C) (s
   LeftByRun r (Check did) files = LeftSince disk r.log' r.side' (disk.moment r.log) files
   LeftByRun r (Archive page query did) files = LeftSince disk r.log' r.side' (disk.moment r.log) files
   LeftByRun r (Contents publication did) files = LeftSince disk r.log' r.side' (disk.moment r.log) files
+  LeftByRun r (Ship name did) files = LeftSince disk r.log' r.side' (disk.moment r.log) files
   LeftByRun r (Pack did) files = LeftByPacking r did files
 
   abbrev pub MayCrash : Run → Option Files → Type 0
@@ -201,6 +204,7 @@ module _ {D S O C L : Type 0} (disk : DiskMeaning D) (clock : ClockMeaning C) (s
   AreOfRun write before r (Check did) events = events ≡ before
   AreOfRun write before r (Archive page query did) events = events ≡ before
   AreOfRun write before r (Contents publication did) events = events ≡ before
+  AreOfRun write before r (Ship name did) events = events ≡ before
   AreOfRun write before r (Pack did) events = events ≡ before
 
   -- events of runs, one behind the other

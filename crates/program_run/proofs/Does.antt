@@ -6,14 +6,14 @@ use Rattle.news_types.specs.History.{History}
 use Rattle.news_types.specs.Names.{Bytes}
 use Rattle.news_io.specs.Outside.{Meanings, Outside}
 use Rattle.command_words.specs.declared.words.Job.{Job}
-use Rattle.command_words.specs.declared.words.Job.TheVariants.{Init, Batch, Ingest, Import, Package, Feed, Queue, Archive, Contents, Drain, Receive, Drill, Check, Pack}
+use Rattle.command_words.specs.declared.words.Job.TheVariants.{Init, Batch, Ingest, Import, Package, Feed, Queue, Archive, Contents, Drain, Receive, Ship, StandIn, Drill, Check, Pack}
 use Rattle.newsdesk_cli.specs.Archive as archive
 use Rattle.newsdesk_cli.specs.Command as old
 use Rattle.newsdesk_cli.specs.Telling as telling
 use Rattle.package_rules.specs.Report.{contents_report}
 use Rattle.room_reports.specs.Texts.{feed_report_at, queue_report_at}
 use Rattle.store_files.specs.declared.trouble.Trouble.TheVariants as trouble
-use Rattle.program_run.specs.Does.{Finds, Does}
+use Rattle.program_run.specs.Does.{Finds, Does, UsesLinks}
 use Rattle.program_run.specs.Inputs.{newsroom_formats}
 use Rattle.program_run.specs.Telling.{IsAnswered, Unread}
 use Rattle.program_run.proofs.Drilled.{is_drilled}
@@ -26,6 +26,8 @@ use Rattle.program_run.proofs.Packed.{is_packed}
 use Rattle.program_run.proofs.Pushing.{drain_does}
 use Rattle.program_run.proofs.Received.{is_received}
 use Rattle.program_run.proofs.Reporting.{report_is}
+use Rattle.program_run.proofs.Shipped.{is_shipped}
+use Rattle.program_run.proofs.StoodIn.{is_stood_in}
 use Rattle.program_run.proofs.Telling.{is_told, is_stopped, is_answered}
 
 module _ {D S O C L : Type 0} (m : Meanings D S O C L) (before after : Outside D S O C L) (number : ℕ) where
@@ -46,32 +48,34 @@ module _ {D S O C L : Type 0} (m : Meanings D S O C L) (before after : Outside D
   finds page asked list (inl told) = inl (told.0, told.1, is_told m.sink told.0 before.output after.output number told.2)
   finds page asked list (inr none) = inr (is_stopped m.sink [] before.output after.output number trouble.Memory none)
 
-  -- only `drain` changes the links
-  pub does : (job : Option Job) → Did job → ((job ≡ Some Drain → ⊥) → after.links ≡ before.links) → Does newsroom_formats m before after job number
+  -- only `drain` and `ship` change the links
+  pub does : (job : Option Job) → Did job → ((UsesLinks job → ⊥) → after.links ≡ before.links) → Does newsroom_formats m before after job number
   does None did links = record {
     log = did.1.same;
     side = did.1.same_side;
-    unread = unread did.0 (links (λ is. absurd (cc is)));
+    unread = unread did.0 (links (λ uses. uses));
     told = record { status_is = did.1.refused.status_is; line = did.1.refused.line };
   }
-  does (Some (Init store)) did links = is_made m before after number store (unread did.0 (links (λ is. absurd (cc is)))) did.1
-  does (Some Batch) did links = batch_answers m before after number (links (λ is. absurd (cc is))) did
-  does (Some (Ingest Text7901 provider)) did links = wire_answers m before after number (links (λ is. absurd (cc is))) provider did
-  does (Some (Ingest Ninjs provider)) did links = item_answers m before after number (links (λ is. absurd (cc is))) provider did
-  does (Some (Import caller)) did links = import_is m before after number caller (links (λ is. absurd (cc is))) did
-  does (Some (Package caller request)) did links = package_is m before after number caller request (links (λ is. absurd (cc is))) did
-  does (Some (Feed subscriber first)) did links = report_is m before after number (query.Feed subscriber first) (feed_report_at subscriber first) did.0 (links (λ is. absurd (cc is))) did.1
-  does (Some Queue) did links = report_is m before after number query.Queue queue_report_at did.0 (links (λ is. absurd (cc is))) did.1
+  does (Some (Init store)) did links = is_made m before after number store (unread did.0 (links (λ uses. uses))) did.1
+  does (Some Batch) did links = batch_answers m before after number (links (λ uses. uses)) did
+  does (Some (Ingest Text7901 provider)) did links = wire_answers m before after number (links (λ uses. uses)) provider did
+  does (Some (Ingest Ninjs provider)) did links = item_answers m before after number (links (λ uses. uses)) provider did
+  does (Some (Import caller)) did links = import_is m before after number caller (links (λ uses. uses)) did
+  does (Some (Package caller request)) did links = package_is m before after number caller request (links (λ uses. uses)) did
+  does (Some (Feed subscriber first)) did links = report_is m before after number (query.Feed subscriber first) (feed_report_at subscriber first) did.0 (links (λ uses. uses)) did.1
+  does (Some Queue) did links = report_is m before after number query.Queue queue_report_at did.0 (links (λ uses. uses)) did.1
   does (Some (Archive page asked)) did links =
-      looked m before after number (unread did.0 (links (λ is. absurd (cc is)))) (λ store list. archive.IsAsked m.sink list page asked before.output after.output number) (λ store list. Finds newsroom_formats m before after page asked list number)
+      looked m before after number (unread did.0 (links (λ uses. uses))) (λ store list. archive.IsAsked m.sink list page asked before.output after.output number) (λ store list. Finds newsroom_formats m before after page asked list number)
       (λ store list told. finds page asked list told) did.1
   does (Some (Contents publication)) did links =
-      looked m before after number (unread did.0 (links (λ is. absurd (cc is)))) (λ store list. telling.IsAnswered m.sink (contents_report list store publication) before.output after.output number)
+      looked m before after number (unread did.0 (links (λ uses. uses))) (λ store list. telling.IsAnswered m.sink (contents_report list store publication) before.output after.output number)
       (λ store list. IsAnswered m.sink (contents_report list store publication) before.output after.output number) (λ store list told. line_told (contents_report list store publication) told) did.1
   does (Some Drain) did links = drain_does m before after number did.0 did.1
-  does (Some (Receive name)) did links = is_received m before after number name did.1 did.0 (links (λ is. absurd (cc is))) did.2
-  does (Some (Drill stories seed)) did links = is_drilled m before after number stories seed did.0 did.1 did.2 (links (λ is. absurd (cc is))) did.3
+  does (Some (Receive name)) did links = is_received m before after number name did.1 did.0 (links (λ uses. uses)) did.2
+  does (Some (Ship name)) did links = is_shipped m before after number name did.0.input_same did.0.clock_same did.1
+  does (Some (StandIn store)) did links = is_stood_in m before after number store did.0 (links (λ uses. uses)) did.1
+  does (Some (Drill stories seed)) did links = is_drilled m before after number stories seed did.0 did.1 did.2 (links (λ uses. uses)) did.3
   does (Some Check) did links =
-      looked m before after number (unread did.0 (links (λ is. absurd (cc is)))) (λ store list. telling.IsAnswered m.sink (old.check_line list) before.output after.output number)
+      looked m before after number (unread did.0 (links (λ uses. uses))) (λ store list. telling.IsAnswered m.sink (old.check_line list) before.output after.output number)
       (λ store list. IsAnswered m.sink (old.check_line list) before.output after.output number) (λ store list told. line_told (old.check_line list) told) did.1
-  does (Some Pack) did links = is_packed m before after number (unread did.0 (links (λ is. absurd (cc is)))) did.1
+  does (Some Pack) did links = is_packed m before after number (unread did.0 (links (λ uses. uses))) did.1

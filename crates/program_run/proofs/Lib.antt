@@ -31,6 +31,8 @@ pub mod Packing
 pub mod Packed
 pub mod Answered
 pub mod Received
+pub mod Shipped
+pub mod StoodIn
 pub mod Drilled
 pub mod Serves
 pub mod Does

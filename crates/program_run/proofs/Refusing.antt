@@ -78,7 +78,7 @@ module _ (log side : List ℕ) where
     bad = subst (λ (rs : List Stored). HasBadRecord rs of_side at found) (placed_is log side) (bad_record (pair_records log side) of_side at found none.damage);
   }
 
-  cause_is : (t : Trouble) → store.Cause log side t → Cause the_finders (log, side) (status_of t)
+  pub cause_is : (t : Trouble) → store.Cause log side t → Cause the_finders (log, side) (status_of t)
   cause_is trouble.WrongStore cause = cause
   cause_is trouble.Store cause = tt
   cause_is (trouble.Damaged at found) cause = record {
@@ -104,7 +104,7 @@ module _ (log side : List ℕ) where
 
 -- ---- counts, and what is told
 
-counts_are : (before now : ℕ) (t : Trouble) → store.TroubleCounts before now t → Counts before now (status_of t)
+pub counts_are : (before now : ℕ) (t : Trouble) → store.TroubleCounts before now t → Counts before now (status_of t)
 counts_are before now trouble.WrongStore counts = counts
 counts_are before now trouble.Store counts = counts
 counts_are before now (trouble.Damaged at found) counts = counts
@@ -112,7 +112,7 @@ counts_are before now (trouble.DamagedSide at found) counts = counts
 counts_are before now trouble.Full counts = counts
 counts_are before now trouble.Memory counts = counts
 
-is_wrong : (t : Trouble) → status_of t ≡ status.WrongStore → t ≡ trouble.WrongStore
+pub is_wrong : (t : Trouble) → status_of t ≡ status.WrongStore → t ≡ trouble.WrongStore
 is_wrong trouble.WrongStore is = refl
 is_wrong trouble.Store is = absurd (cc is)
 is_wrong (trouble.Damaged at found) is = absurd (cc is)

@@ -8,7 +8,7 @@ use Rattle.news_types.specs.Names.{Bytes}
 use Rattle.news_io.specs.Faults.{Rose}
 use Rattle.news_io.specs.Outside.{Meanings, Outside, FilesTell, read, store_faults}
 use Rattle.command_words.specs.declared.words.Job.{Job}
-use Rattle.command_words.specs.declared.words.Job.TheVariants.{Init, Batch, Ingest, Import, Package, Feed, Queue, Archive, Contents, Drain, Receive, Drill, Check, Pack}
+use Rattle.command_words.specs.declared.words.Job.TheVariants.{Init, Batch, Ingest, Import, Package, Feed, Queue, Archive, Contents, Drain, Receive, Ship, StandIn, Drill, Check, Pack}
 use Rattle.receiver_files.specs.Log.{Gives}
 use Rattle.room_reports.specs.Written.{IsStopped}
 use Rattle.run_status.specs.declared.status.Status.TheVariants as status
@@ -26,6 +26,8 @@ use Rattle.program_run.specs.Pushed.{Pushed}
 use Rattle.program_run.specs.Received.{IsReceived}
 use Rattle.program_run.specs.Refused.{NotOpened}
 use Rattle.program_run.specs.Reported.{Reported}
+use Rattle.program_run.specs.Shipped.{IsShipped}
+use Rattle.program_run.specs.StoodIn.{Gives as HeldBy, IsStoodIn}
 use Rattle.program_run.specs.Telling.{IsTold, IsAnswered, Unread}
 
 -- the files are not refused for their bytes, and a failure is told only where a count of the disks rose
@@ -80,6 +82,8 @@ module _ {D S O C L : Type 0} (f : Formats) (m : Meanings D S O C L) (before aft
       Looked f.finders m before after number (λ store list. Tells (f.contents_report store publication list) number)
   Does (Some Drain) number = Drains number
   Does (Some (Receive name)) number = IsReceived m before after number name
+  Does (Some (Ship name)) number = IsShipped m before after number name f.finders
+  Does (Some (StandIn store)) number = IsStoodIn m before after number store f.finders
   Does (Some (Drill stories seed)) number = IsDrilled f m before after number stories seed
   Does (Some Check) number = Looked f.finders m before after number (λ store list. Tells (f.check_line list) number)
   Does (Some Pack) number = IsPacked f.finders m before after number
@@ -95,6 +99,7 @@ module _ {D S O C L : Type 0} (m : Meanings D S O C L) (before after : Outside D
   Serves None number = Unit {0}
   Serves (Some (Init store)) number = Unit {0}
   Serves (Some (Receive name)) number = Unit {0}
+  Serves (Some (StandIn store)) number = Unit {0}
   Serves (Some (Drill stories seed)) number = Unit {0}
   Serves (Some job) number = ServesLists number
 
@@ -103,3 +108,15 @@ module _ {D S O C L : Type 0} (m : Meanings D S O C L) (before after : Outside D
   ReceiverServes (Some (Receive name)) number = m.disk.tells before.log → (frames : List Frame)
       → Gives name (m.disk.seen before.log) frames → IsServed (m.disk.faults before.log) (m.disk.faults after.log) number
   ReceiverServes job number = Unit {0}
+
+  -- what `stand-in` answers on files that are empty or hold the list of its store
+  abbrev pub StandbyServes : Option Job → ℕ → Type 0
+  StandbyServes (Some (StandIn store)) number = FilesTell m before → length store ≡ 16 → (held : List Bytes)
+      → HeldBy store (read m before) held → IsServed (store_faults m before) (store_faults m after) number
+  StandbyServes job number = Unit {0}
+
+-- the commands that use links
+abbrev pub UsesLinks : Option Job → Type 0
+UsesLinks (Some Drain) = Unit {0}
+UsesLinks (Some (Ship name)) = Unit {0}
+UsesLinks job = ⊥

@@ -14,6 +14,8 @@ pub mod Looked
 pub mod Made
 pub mod Packed
 pub mod Received
+pub mod Shipped
+pub mod StoodIn
 pub mod DrillReport
 pub mod Drilled
 pub mod Pushed

@@ -5,18 +5,17 @@
 //! what the call below says of its room.
 #![tactic(auto)]
 
-ghost use Rattle.std.specs.Prelude.{◌≡◌, Some};
+ghost use Rattle.std.specs.Prelude.{◌≡◌};
 ghost use Rattle.command_words.specs.Words.{job_of};
-ghost use Rattle.command_words.specs.declared.words.Job.TheVariants.{Drain};
-ghost use Rattle.program_run.specs.Does.{Does, Serves, ReceiverServes};
+ghost use Rattle.program_run.specs.Does.{Does, Serves, ReceiverServes, StandbyServes, UsesLinks};
 ghost use Rattle.program_run.specs.Inputs.{newsroom_formats};
 
 use news_io::{Clock, Disk, Link, Sink, Source};
 use news_types::Text;
 use std::alloc::Global;
 
-/// Does what the words ask for, and gives the status and the two disks back, the log's and the side's. Only `drain` uses the
-/// links; for `receive` the log is a receiver's.
+/// Does what the words ask for, and gives the status and the two disks back, the log's and the side's. Only `drain` and
+/// `ship` use the links; for `receive` the log is a receiver's.
 #[tactic(none)]
 pub fn run<S: Source, O: Sink, D: Disk, C: Clock, L: Link>(
     alloc: Global,
@@ -45,8 +44,14 @@ pub fn run<S: Source, O: Sink, D: Disk, C: Clock, L: Link>(
         (record { log = log; side = side; input = input.old; output = output.old; clock = clock.old; links = links.old.items })
         (record { log = result.1; side = result.2; input = input.new; output = output.new; clock = clock.new; links = links.new.items })
         (job_of words.now) result.0 }
-    // Only `drain` changes the links.
-    ensures links { (job_of words.now ≡ Some Drain → ⊥) → links.new.items ≡ links.old.items }
+    // Nor are a standby's files that are empty or hold its store's list.
+    ensures stands_in { StandbyServes
+        (record { disk = D.disk; source = S.source; sink = O.sink; clock = C.clock; link = L.link })
+        (record { log = log; side = side; input = input.old; output = output.old; clock = clock.old; links = links.old.items })
+        (record { log = result.1; side = result.2; input = input.new; output = output.new; clock = clock.new; links = links.new.items })
+        (job_of words.now) result.0 }
+    // Only `drain` and `ship` change the links.
+    ensures links { (UsesLinks (job_of words.now) → ⊥) → links.new.items ≡ links.old.items }
 {
     newsdesk_cli::run(alloc, words, input, output, log, side, clock, links)
 }

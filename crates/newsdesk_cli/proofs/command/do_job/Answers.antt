@@ -55,7 +55,7 @@ pub returns-in-Drain-clause-receives : goal.returns-in-Drain-clause-receives
 returns-in-Drain-clause-receives g c told = rw c.in-Drain.is tt
 
 pub returns-in-Drain-clause-links : goal.returns-in-Drain-clause-links
-returns-in-Drain-clause-links g c other = absurd (other c.in-Drain.is)
+returns-in-Drain-clause-links g c other = absurd (other (rw c.in-Drain.is tt))
 
 pub returns-in-Receive-clause-does : goal.returns-in-Receive-clause-does
 returns-in-Receive-clause-does g c = rw c.in-Receive.is (refl, c.receive.ensures.side, c.receive.ensures.received)
@@ -132,3 +132,69 @@ returns-in-Contents-clause-receives g c told = rw c.in-Contents.is tt
 
 pub returns-in-Contents-clause-links : goal.returns-in-Contents-clause-links
 returns-in-Contents-clause-links g c other = refl
+
+pub returns-in-Init-clause-stands_in : goal.returns-in-Init-clause-stands_in
+returns-in-Init-clause-stands_in g c told told' = rw c.in-Init.is tt
+
+pub returns-in-Batch-clause-stands_in : goal.returns-in-Batch-clause-stands_in
+returns-in-Batch-clause-stands_in g c told told' = rw c.in-Batch.is tt
+
+pub returns-in-Ingest-clause-stands_in : goal.returns-in-Ingest-clause-stands_in
+returns-in-Ingest-clause-stands_in g c told told' = rw c.in-Ingest.is tt
+
+pub returns-in-Feed-clause-stands_in : goal.returns-in-Feed-clause-stands_in
+returns-in-Feed-clause-stands_in g c told told' = rw c.in-Feed.is tt
+
+pub returns-in-Queue-clause-stands_in : goal.returns-in-Queue-clause-stands_in
+returns-in-Queue-clause-stands_in g c told told' = rw c.in-Queue.is tt
+
+pub returns-in-Drain-clause-stands_in : goal.returns-in-Drain-clause-stands_in
+returns-in-Drain-clause-stands_in g c told told' = rw c.in-Drain.is tt
+
+pub returns-in-Receive-clause-stands_in : goal.returns-in-Receive-clause-stands_in
+returns-in-Receive-clause-stands_in g c told told' = rw c.in-Receive.is tt
+
+pub returns-in-Drill-clause-stands_in : goal.returns-in-Drill-clause-stands_in
+returns-in-Drill-clause-stands_in g c told told' = rw c.in-Drill.is tt
+
+pub returns-in-Check-clause-stands_in : goal.returns-in-Check-clause-stands_in
+returns-in-Check-clause-stands_in g c told told' = rw c.in-Check.is tt
+
+pub returns-in-Pack-clause-stands_in : goal.returns-in-Pack-clause-stands_in
+returns-in-Pack-clause-stands_in g c told told' = rw c.in-Pack.is tt
+
+pub returns-in-Import-clause-stands_in : goal.returns-in-Import-clause-stands_in
+returns-in-Import-clause-stands_in g c told told' = rw c.in-Import.is tt
+
+pub returns-in-Package-clause-stands_in : goal.returns-in-Package-clause-stands_in
+returns-in-Package-clause-stands_in g c told told' = rw c.in-Package.is tt
+
+pub returns-in-Archive-clause-stands_in : goal.returns-in-Archive-clause-stands_in
+returns-in-Archive-clause-stands_in g c told told' = rw c.in-Archive.is tt
+
+pub returns-in-Contents-clause-stands_in : goal.returns-in-Contents-clause-stands_in
+returns-in-Contents-clause-stands_in g c told told' = rw c.in-Contents.is tt
+
+pub returns-in-Ship-clause-does : goal.returns-in-Ship-clause-does
+returns-in-Ship-clause-does g c = rw c.in-Ship.is (record { input_same = refl; clock_same = refl }, c.ship_list.ensures)
+
+pub returns-in-Ship-clause-receives : goal.returns-in-Ship-clause-receives
+returns-in-Ship-clause-receives g c told = rw c.in-Ship.is tt
+
+pub returns-in-Ship-clause-stands_in : goal.returns-in-Ship-clause-stands_in
+returns-in-Ship-clause-stands_in g c told told' = rw c.in-Ship.is tt
+
+pub returns-in-Ship-clause-links : goal.returns-in-Ship-clause-links
+returns-in-Ship-clause-links g c other = absurd (other (rw c.in-Ship.is tt))
+
+pub returns-in-StandIn-clause-does : goal.returns-in-StandIn-clause-does
+returns-in-StandIn-clause-does g c = rw c.in-StandIn.is (refl, c.stand_in.ensures.stands)
+
+pub returns-in-StandIn-clause-receives : goal.returns-in-StandIn-clause-receives
+returns-in-StandIn-clause-receives g c told = rw c.in-StandIn.is tt
+
+pub returns-in-StandIn-clause-stands_in : goal.returns-in-StandIn-clause-stands_in
+returns-in-StandIn-clause-stands_in g c told told' = rw c.in-StandIn.is (λ held gives. c.stand_in.ensures.serves told told' held gives)
+
+pub returns-in-StandIn-clause-links : goal.returns-in-StandIn-clause-links
+returns-in-StandIn-clause-links g c other = refl

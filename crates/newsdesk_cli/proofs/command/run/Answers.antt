@@ -1,5 +1,6 @@
-use Rattle.std.proofs.Common.{◌≡◌, ◌∙◌, sym, refl, ap, None, Some}
+use Rattle.std.proofs.Common.{◌≡◌, ◌∙◌, sym, refl, subst, None, Some}
 use Rattle.command_words.specs.Words.{job_of}
+use Rattle.newsdesk_cli.specs.Command.{UsesLinks}
 use Rattle.newsdesk_cli.proofs.Serving.{serves}
 use Rattle.newsdesk_cli.proofs.command.run.Goals as goal
 
@@ -29,7 +30,7 @@ returns-clause-does g c =
 pub returns-clause-links : goal.returns-clause-links
 returns-clause-links g c other =
     let some : job_of c.args.words.now ≡ Some c.in-Some.job = sym c.read_words.ensures ∙ c.in-Some.is in
-    c.do_job.ensures.links (λ is. other (some ∙ ap Some is))
+    c.do_job.ensures.links (λ uses. other (subst UsesLinks (sym some) uses))
 
 pub returns-in_default-clause-receives : goal.returns-in_default-clause-receives
 returns-in_default-clause-receives g c told =
@@ -40,3 +41,13 @@ pub returns-clause-receives : goal.returns-clause-receives
 returns-clause-receives g c told =
     let some : job_of c.args.words.now ≡ Some c.in-Some.job = sym c.read_words.ensures ∙ c.in-Some.is in
     rw some (c.do_job.ensures.receives told)
+
+pub returns-in_default-clause-stands_in : goal.returns-in_default-clause-stands_in
+returns-in_default-clause-stands_in g c told told' =
+    let none : job_of c.args.words.now ≡ None = sym c.read_words.ensures ∙ c.in_default.is in
+    rw none tt
+
+pub returns-clause-stands_in : goal.returns-clause-stands_in
+returns-clause-stands_in g c told told' =
+    let some : job_of c.args.words.now ≡ Some c.in-Some.job = sym c.read_words.ensures ∙ c.in-Some.is in
+    rw some (c.do_job.ensures.stands_in told told')

@@ -1,0 +1,10 @@
+mod Lines
+mod Standing
+mod Copying
+mod Taking
+mod Sent
+mod Crashing
+mod Coming
+mod Exchanging
+mod Rooms
+mod Numbers

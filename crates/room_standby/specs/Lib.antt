@@ -1,0 +1,5 @@
+pub mod Holds
+pub mod Takes
+pub mod Comes
+pub mod Promotes
+pub mod Ships

@@ -1,0 +1,17 @@
+pub mod Inputs
+pub mod Steps
+pub mod Turns
+pub mod Pieces
+pub mod Ended
+pub mod Replies
+pub mod Outputs
+pub mod HeaderKinds
+pub mod RecordLists
+pub mod Second
+pub mod Own
+pub mod Openings
+pub mod Lefts
+pub mod Serving
+pub mod Stood
+pub mod Sizes
+pub mod Ships

@@ -1,0 +1,12 @@
+pub mod Input
+pub mod Answers
+pub mod Run
+pub mod Status
+pub mod Telling
+pub mod Opening
+pub mod Kinds
+pub mod Listing
+pub mod StoreLeft
+pub mod StandIn
+pub mod Shipping
+pub mod Laws

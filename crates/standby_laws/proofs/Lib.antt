@@ -1,0 +1,4 @@
+pub mod Lists
+pub mod Following
+mod WrongStandbys
+pub mod Stops

@@ -1,0 +1,5 @@
+pub mod Standby
+pub mod Following
+pub mod Law
+pub mod WrongStandbys
+pub mod Example
