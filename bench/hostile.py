@@ -30,6 +30,8 @@ NEWSDESK = os.environ.get("NEWSDESK", os.path.join(TOP, "crates/newsdesk/out/new
 SERVER = os.environ.get("PLAIN_SERVER", os.path.join(TOP, "crates/plain_server/out/plain_server"))
 STORE = "6ba7b810-9dad-11d1-80b4-00c04fd430c8"
 LIMIT = 60
+# what a command that reads alone says of a log whose base a packing left to be put right
+CUT_SHORT = b"newsdesk: the last packing was cut short: `newsdesk pack STORE` puts the log right\n"
 # what part of the inputs is of each kind
 SHARES = {"lines": 0.6, "wires": 0.25, "items": 0.06, "http": 0.06, "serve": 0.02, "frames": 0.01}
 # how many inputs a round has
@@ -107,7 +109,7 @@ def run(program, words, folder, given=b""):
         raise Finding(f"{name} had not ended after {LIMIT} seconds", input=given) from None
     if done.returncode not in range(17):
         raise Finding(f"{name} ended with status {done.returncode}", input=given, output=done.stdout, errors=done.stderr)
-    if done.stderr:
+    if done.stderr and (done.returncode, done.stderr) != (6, CUT_SHORT):
         raise Finding(f"{name} wrote to standard error", input=given, errors=done.stderr)
     return done.returncode, done.stdout
 

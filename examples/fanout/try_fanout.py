@@ -294,11 +294,17 @@ def compare(newsdesk, cluster, followers):
         cluster.heal()
         server.stop()
         for name, wanted in feeds.items():
-            reader, file = cluster.read(name)
-            expect(f"the status of a reader of {name} without {stopped}", reader.wait(), 0)
-            expect(f"the stream {name} without {stopped}", read_file(file), wanted)
+            # a server that was just chosen to lead may tell of fewer entries, until it has taken in those that the others have
+            eventually(f"the stream {name} without {stopped} is its feed", lambda: read_whole(cluster, name) == wanted, 60)
         server.start()
     cluster.heal()
+
+
+def read_whole(cluster, name):
+    """What a reader gets of a stream now."""
+    reader, file = cluster.read(name)
+    expect(f"the status of a reader of {name}", reader.wait(), 0)
+    return read_file(file)
 
 
 def read_file(path):
