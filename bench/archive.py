@@ -3,7 +3,8 @@
 
 A store in memory is filled by `batch`, `serve` opens it, and each query is asked five times by `POST /archive`; the best time counts, with the
 tick, the answer and the connection in it. Once the bodies are ASCII, and once each has characters past it. A word in the body should be found
-in 500 ms, and a number, an item, an act, an urgency or a release in 30 ms; it ends with 1 where one takes longer.
+in 500 ms, and a number, an item, an act, an urgency or a release in 30 ms; it ends with 1 where one takes longer. Beside each time stands how
+much of it the server was on a processor, the least of the five: that is what it would take on a machine without other work.
 """
 import http.client
 import json
@@ -26,6 +27,7 @@ GERMAN = "der die das und in Feuer Stadt Rat Rauch Fluß Bericht sagte Minister 
 QUERIES = (
     ('body has "volcano"', 500),
     ('body has "tsetse"', 500),
+    ('body has "größe"', 500),
     ("number above 199000", 30),
     ("item is 77", 30),
     ("act is kill", 30),
@@ -47,19 +49,29 @@ def lines(words):
         yield json.dumps({"by": "admin", "number": number, "do": "flash", "story": story}, ensure_ascii=False)
 
 
-def ask(port, query):
-    """The seconds of the best of some rounds, and how many publications were found."""
-    best, body = float("inf"), json.dumps({"page": 0, "query": query})
+def processor_seconds(process):
+    """How long the threads of a process have been on a processor."""
+    nanoseconds = 0
+    for task in os.listdir(f"/proc/{process.pid}/task"):
+        with open(f"/proc/{process.pid}/task/{task}/schedstat", encoding="ascii") as file:
+            nanoseconds += int(file.read().split()[0])
+    return nanoseconds / 1e9
+
+
+def ask(server, port, query):
+    """The seconds of the best of some rounds, those of a processor, and how many publications were found."""
+    best, least, body = float("inf"), float("inf"), json.dumps({"page": 0, "query": query})
     for _ in range(ROUNDS):
         connection = http.client.HTTPConnection("127.0.0.1", port, timeout=60)
         connection.connect()
-        begun = time.monotonic()
+        worked, begun = processor_seconds(server), time.monotonic()
         connection.request("POST", "/archive", body, {"X-User": "admin"})
         answer = connection.getresponse()
         found = json.loads(answer.read())
         best = min(best, time.monotonic() - begun)
+        least = min(least, processor_seconds(server) - worked)
         connection.close()
-    return best, found["total"]
+    return best, least, found["total"]
 
 
 def listens(port):
@@ -82,9 +94,9 @@ def main():
                 while not listens(port):
                     time.sleep(0.1)
                 for query, aim in QUERIES:
-                    seconds, total = ask(port, query)
+                    seconds, worked, total = ask(server, port, query)
                     late += 1000 * seconds > aim
-                    print(f"{name}: {query}: {1000 * seconds:.1f} ms for {total} found, the aim is {aim}")
+                    print(f"{name}: {query}: {1000 * seconds:.1f} ms, {1000 * worked:.1f} of a processor, for {total} found, the aim is {aim}", flush=True)
             finally:
                 server.kill()
                 server.wait()

@@ -8,4 +8,6 @@ mod pair_tests;
 #[cfg(test)]
 mod room_tests;
 #[cfg(test)]
+mod standby_tests;
+#[cfg(test)]
 mod types_tests;
