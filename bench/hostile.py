@@ -31,6 +31,7 @@ SERVER = os.environ.get("PLAIN_SERVER", os.path.join(TOP, "crates/plain_server/o
 STORE = "6ba7b810-9dad-11d1-80b4-00c04fd430c8"
 LIMIT = 60
 # what a command that reads alone says of a log whose base a packing left to be put right
+LISTENS = rb"\S+ newsdesk: listening at 127\.0\.0\.1:\d+: ready\n"
 CUT_SHORT = b"newsdesk: the last packing was cut short: `newsdesk pack STORE` puts the log right\n"
 # what part of the inputs is of each kind
 SHARES = {"lines": 0.6, "wires": 0.25, "items": 0.06, "http": 0.06, "serve": 0.02, "frames": 0.01}
@@ -363,7 +364,8 @@ def serve(chance, house):
             raise Finding("serve did not end behind a stop", input=sent) from None
         finally:
             server.kill()
-    if server.returncode or errors or not output.startswith(b"entries "):
+    # one line: that it listens
+    if server.returncode or not re.fullmatch(LISTENS, errors) or not output.startswith(b"entries "):
         raise Finding(f"serve ended with status {server.returncode}: {errors[:200]!r}", input=sent, output=output)
     if newsdesk(["check", "store"], house.folder)[0]:
         raise Finding("the store behind serve does not open", input=sent)

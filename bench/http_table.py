@@ -4,7 +4,7 @@
     bench/http_table.py            # each connection by curl, or as bytes where curl cannot send it, to `plain_server` on a socket
     bench/http_table.py --write    # writes the table as crates/plain_server/stdin and stdout, which the gate runs
 
-The last connection, whose memory runs out again and again, is the gate's alone.
+The connections whose memory runs out again and again are the gate's alone.
 
 What is expected is worked by hand from the rules of the newsroom, in the order of its statuses, and written below; the JSON, the frames and
 the lengths are made here, by Python's own library. A connection is served by a newsroom of its own without an entry, whose clock shows 1000
@@ -27,7 +27,7 @@ EMPTY_LOG = 65
 LIMIT = 1073737728
 # what a stop may use: all but the 14 bytes of a halt's record
 STOP_LIMIT = 1073741824 - 14
-JSON, OCTETS = "application/json", "application/octet-stream"
+JSON, OCTETS, METRICS = "application/json", "application/octet-stream", "text/plain; version=0.0.4"
 
 
 # ---- requests and responses
@@ -168,6 +168,12 @@ def found(total, *rows):
 
 def bad_query(at):
     return 400, keyed(answer="bad-query", at=at), JSON
+
+
+def publication(number, headline, body, release, kind="text"):
+    story = {"kind": kind, "urgency": 0, "html": False, "headline": headline, "body": body}
+    story.update({name: "" for name in ("slugline", "byline", "language", "category", "copyright")})
+    return told("publication", act="first", item=number, release=release, story=dict(sorted(story.items())), version=1)
 
 
 def contents(associations, *rows):
@@ -524,7 +530,7 @@ PACKAGES = Connection(
     get("/publications/02/contents", "admin", bare(400)),
     get("/publications/4294967296/contents", "admin", bare(400)),
     get("/publications/two/contents", "zoe", bare(400)),
-    get("/publications/2", "admin", bare(404)),
+    get("/publications/2", "admin", publication(2, "Pack", "PACKAGE\nmain 1\n", 1003, "composite")),
     Ask("POST /publications/2/contents", "admin", bare(404)),
 )
 
@@ -828,6 +834,176 @@ HEADS = [
 ]
 
 
+# ---- what stands on a desk, whom a story would reach, and metrics
+
+
+def items(*rows):
+    return told("items", rows=list(rows))
+
+
+def row(number, state, headline, **more):
+    return {"headline": headline, "item": number, "slugline": "", "state": state, "urgency": 0, "version": 1, **more}
+
+
+def reach(*rows):
+    return told("reach", rows=list(rows))
+
+
+def reached(subscriber, reason, had=False, **cause):
+    return {"had": had, "reason": reason, "subscriber": subscriber, **cause}
+
+
+def no_publication(count):
+    return 404, keyed(answer="no-publication", count=count), JSON
+
+
+def asked(item, targets, wanted, user="admin"):
+    """Whom the item would reach with these targets, asked with a body."""
+    return Ask(f"POST /items/{item}/reach", user, wanted, {} if targets is None else {"targets": targets})
+
+
+GAUGES = {
+    "entries": "Entries of the list.",
+    "moment_seconds": "Moment of the last entry, in seconds of Unix time.",
+    "log_bytes": "Bytes of the log in use.",
+    "log_limit_bytes": "Bytes of the log that requests may use.",
+    "items": "Items made so far.",
+    "items_limit": "Items that can be made.",
+    "publications": "Publications made so far.",
+}
+FEED_GAUGES = {
+    "feed_length": "Entries of the feed.",
+    "feed_acked": "Entries of the feed that the subscriber acknowledged.",
+    "feed_tries": "Attempts to deliver the next entry of the feed.",
+    "feed_paused": "Whether the feed is paused.",
+    "feed_oldest_seconds": "Seconds since the release of the oldest entry that is not acknowledged.",
+}
+MOST_ITEMS = 262144
+
+
+def metrics(entries, moment, used, count, publications, *feeds):
+    """The metrics of a newsroom of which nothing was counted; a feed is its subscriber and its five numbers."""
+    lines = []
+    for (name, says), value in zip(GAUGES.items(), (entries, moment, EMPTY_LOG + used, LIMIT, count, MOST_ITEMS, publications)):
+        lines += [f"# HELP newsdesk_{name} {says}", f"# TYPE newsdesk_{name} gauge", f"newsdesk_{name} {value}"]
+    for place, (name, says) in enumerate(FEED_GAUGES.items() if feeds else (), 1):
+        lines += [f"# HELP newsdesk_{name} {says}", f"# TYPE newsdesk_{name} gauge"]
+        lines += [f'newsdesk_{name}{{subscriber="{values[0]}"}} {values[place]}' for values in feeds]
+    return 200, "".join(line + "\n" for line in lines), METRICS
+
+
+def request_record(command):
+    """The bytes of a record of a request of `admin`, whose command has so many: a gate, a length, a moment, the tag, the caller and the number."""
+    return 5 + 8 + 1 + (1 + len("admin")) + 8 + command
+
+
+BETA_RECORD = request_record(1 + 1 + len("beta") + 1 + 2 + 1 + len("all"))
+ALPHA_RECORD = request_record(1 + 1 + len("alpha") + 1 + 2)
+FIRE_RECORD = request_record(1 + 27 + len("Fire") + len("Smoke.") + 2)
+BETAS_RECEIPT = 5 + 8 + 1 + 1 + len("beta") + 4
+BUDGET = row(1, "draft", "Budget", desk="city", stage="working", slugline="plan", urgency=4)
+SMOKE = {"headline": "Fire", "body": "Smoke."}
+
+DESKS = [
+    Connection(
+        "what stands on the desks",
+        "Closed",
+        city(),
+        post("admin", 2, "set_member", done(2), desk="city", user="admin", member=True),
+        post("admin", 3, "create", done(3, 1), desk="city", story={"headline": "Budget", "slugline": "plan", "urgency": 4}),
+        post("admin", 4, "add_provider", done(4), provider="wire"),
+        ingest("wire", "admin", {"uri": "http://x.example/1", "type": "text", "headline": "Fire", "body_text": "Smoke."}, done(5, 2)),
+        get("/items/below/4294967295", "admin", items(row(2, "ingested", "Fire"), BUDGET)),
+        get("/items/below/3", "admin", items(row(2, "ingested", "Fire"), BUDGET)),
+        get("/items/below/2", "admin", items(BUDGET)),
+        get("/items/below/1", "admin", items()),
+        get("/items/below/0", "admin", items()),
+        get("/desks/city/items/below/9", "admin", items(BUDGET)),
+        post("admin", 5, "lock", done(6, 1), item=1, session="s"),
+        get("/desks/city/items/below/9", "admin", items({**BUDGET, "session": "s", "user": "admin"})),
+        get("/desks/town/items/below/9", "admin", unknown("desk")),
+        get("/desks/Town/items/below/9", "admin", bare(400)),
+        get("/items/below/02", "admin", bare(400)),
+        get("/items/below/4294967296", "admin", bare(400)),
+        get("/desks/city/items/below/x", "admin", bare(400)),
+        get("/items/below/9", "zoe", bare(403)),
+        get("/items/below/9", None, bare(400)),
+        Ask("POST /items/below/9", "admin", bare(404)),
+        get("/items/below", "admin", bare(400)),
+        get("/desks/city/items/below", "admin", bare(404)),
+    ),
+    Connection(
+        "whom an item would reach",
+        "Closed",
+        post("admin", 1, "add_subscriber", done(1), subscriber="beta", format="ninjs", products=[]),
+        post("admin", 2, "add_subscriber", done(2), subscriber="alpha", format="ninjs", products=["all"]),
+        post("admin", 3, "flash", done(3, 1, 1, 1002), story=SMOKE),
+        get("/items/1/reach", "admin", reach(reached("alpha", "permitted", True, product="all"), reached("beta", "refused", products=[]))),
+        asked(1, None, reach(reached("alpha", "permitted", True, product="all"), reached("beta", "refused", products=[]))),
+        asked(1, [], reach(reached("alpha", "permitted", True, product="all"), reached("beta", "refused", products=[]))),
+        asked(1, ["beta"], reach(reached("alpha", "not_target", True), reached("beta", "refused", products=[]))),
+        asked(1, ["alpha", "zulu"], unknown("subscriber")),
+        asked(1, 7, bad("targets")),
+        Ask("POST /items/1/reach", "admin", bad("line"), []),
+        Ask("POST /items/x/reach", "admin", bare(400), []),
+        get("/items/2/reach", "admin", unknown("item")),
+        get("/items/01/reach", "admin", bare(400)),
+        get("/items/1/reach", "zoe", bare(403)),
+        get("/items/1/reach", "alpha", bare(403)),
+        asked(1, None, bare(400), user=None),
+        Ask("PUT /items/1/reach", "admin", bare(404), {}),
+    ),
+    Connection(
+        "a publication as it is",
+        "Closed",
+        post("admin", 1, "add_subscriber", done(1), subscriber="alpha", format="ninjs", products=["all"]),
+        post("admin", 2, "flash", done(2, 1, 1, 1001), story=SMOKE),
+        get("/publications/1", "admin", publication(1, "Fire", "Smoke.", 1001)),
+        get("/publications/2", "admin", no_publication(1)),
+        get("/publications/0", "admin", no_publication(1)),
+        get("/publications/one", "admin", bare(400)),
+        get("/publications/1", "zoe", bare(403)),
+        get("/publications/1", None, bare(400)),
+        Ask("POST /publications/1", "admin", bare(404)),
+    ),
+    Connection(
+        "metrics, which need no caller and keep nothing",
+        "Closed",
+        get("/metrics", None, metrics(0, 0, 0, 0, 0)),
+        get("/metrics", "zoe", metrics(0, 0, 0, 0, 0)),
+        city(),
+        get("/metrics", None, metrics(1, 1002, 34, 0, 0)),
+        get("/metrics", "Not a name", metrics(1, 1002, 34, 0, 0)),
+        Ask("POST /metrics", None, bare(404)),
+        get("/metrics/", None, bare(404)),
+    ),
+    Connection(
+        "metrics do not release what waits",
+        "Closed",
+        city(),
+        post("admin", 2, "set_member", done(2), desk="city", user="admin", member=True),
+        post("admin", 3, "create", done(3, 1), desk="city", story={}),
+        post("admin", 4, "lock", done(4, 1), item=1, session="s"),
+        post("admin", 5, "publish", done(5, 1, 1, 1007), item=1, session="s", embargo=1007),
+        get("/metrics", None, metrics(5, 1004, 218, 1, 1)),
+        get("/metrics", "zoe", metrics(5, 1004, 218, 1, 1)),
+        get("/metrics", None, metrics(5, 1004, 218, 1, 1)),
+        get("/queue", "admin", queue()),
+        get("/metrics", None, metrics(6, 1008, 218 + 14, 1, 1)),
+    ),
+    Connection(
+        "the metrics of feeds",
+        "Closed",
+        post("admin", 1, "add_subscriber", done(1), subscriber="beta", format="ninjs", products=["all"]),
+        post("admin", 2, "add_subscriber", done(2), subscriber="alpha", format="ninjs", products=[]),
+        post("admin", 3, "flash", done(3, 1, 1, 1002), story=SMOKE),
+        get("/metrics", None, metrics(3, 1002, BETA_RECORD + ALPHA_RECORD + FIRE_RECORD, 1, 1, ("alpha", 0, 0, 0, 0, 0), ("beta", 1, 0, 0, 0, 1))),
+        receipt("beta", "beta", 1, done(4)),
+        get("/metrics", None, metrics(4, 1004, BETA_RECORD + ALPHA_RECORD + FIRE_RECORD + BETAS_RECEIPT, 1, 1, ("alpha", 0, 0, 0, 0, 0), ("beta", 1, 1, 0, 0, 0))),
+    ),
+]
+
+
 def twice(ask):
     """A request that finds no memory, and then the same again."""
     first = copy.copy(ask)
@@ -856,24 +1032,38 @@ STARVED = [
         *twice(post("admin", 6, "stop", done(8))),
         get("/queue", "admin", (None, "", JSON)),
         failing="growth",
-    )
+    ),
+]
+
+STARVED_DESKS = [
+    Connection(
+        "no memory for what a desk asks, or for metrics",
+        "Closed",
+        *twice(get("/metrics", None, metrics(0, 0, 0, 0, 0))),
+        *twice(get("/items/below/9", "admin", items())),
+        *twice(get("/items/1/reach", "admin", unknown("item"))),
+        *twice(get("/publications/1", "admin", no_publication(0))),
+        failing="growth",
+    ),
 ]
 
 TABLE = [*WORKED, USERS, TARGETS, BODIES, STORY, TICKS, INGESTS, PACKAGES, ARCHIVE, *PACKAGE_TICKS, *FULL, *FAILS, *ENDINGS, *HEADS]
+# all that the gate runs; of these the starved ones are sent to it alone
+GATED = [*TABLE, *STARVED, *DESKS, *STARVED_DESKS]
 
 
 # ---- the files of the gate
 
 
 def write_files():
-    for connection in [*TABLE, *STARVED]:
+    for connection in GATED:
         assert len(connection.asks) <= 64, connection.title
     with open(os.path.join(GATE, "stdin"), "wb") as file:
-        for connection in [*TABLE, *STARVED]:
+        for connection in GATED:
             sent = connection.bytes()
             file.write(f"{connection.used} {connection.failing} {len(sent)} {connection.title}\n".encode() + sent + b"\n")
     with open(os.path.join(GATE, "stdout"), "wb") as file:
-        for connection in [*TABLE, *STARVED]:
+        for connection in GATED:
             file.write(f"= {connection.title}\n".encode() + connection.answer() + f"\n- {connection.ended}\n".encode())
 
 
@@ -924,7 +1114,7 @@ def send_table():
     listener = Listener()
     counts = {"curl": 0, "bytes": 0}
     wrong = 0
-    for connection in TABLE:
+    for connection in [*TABLE, *DESKS]:
         listener.words = [str(connection.used), str(connection.failing)]
         listener.accepted = 0
         way = "bytes" if connection.is_raw() else "curl"
@@ -934,7 +1124,7 @@ def send_table():
         if got != connection.answer() or listener.accepted != 1:
             wrong += 1
             print(f"{connection.title}, by {way}, {listener.accepted} connections: {got!r} in place of {connection.answer()!r}")
-    print(f"{counts['curl']} requests were sent by curl and {counts['bytes']} as bytes, on {len(TABLE)} connections; {wrong} of these were answered otherwise")
+    print(f"{counts['curl']} requests were sent by curl and {counts['bytes']} as bytes, on {len(TABLE) + len(DESKS)} connections; {wrong} of these were answered otherwise")
     sys.exit(wrong != 0)
 
 

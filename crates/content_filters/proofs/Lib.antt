@@ -5,3 +5,4 @@ pub mod Judging
 pub mod Absent
 pub mod Facts
 pub mod Changed
+pub mod Blocks

@@ -1,8 +1,8 @@
 -- Which conditions and filters the table keeps, and what its verdicts are.
-use Rattle.std.specs.Prelude.{◌≡◌, ℕ, ◌<◌, Bool, List, [], ◌∷◌, ◌++◌, map, Option, Some, option_map, vec_len}
+use Rattle.std.specs.Prelude.{◌≡◌, ℕ, ◌<◌, Bool, not, ◌&&◌, List, [], ◌∷◌, ◌++◌, map, Option, Some, option_map, vec_len}
 use Rattle.std.specs.List.{list_any}
 use Rattle.std.specs.HashMap.{get}
-use Rattle.news_types.specs.Names.{Bytes, same}
+use Rattle.news_types.specs.Names.{Bytes, same, is_in}
 use Rattle.news_types.specs.Conditions.{Condition}
 use Rattle.news_types.specs.Filters.{Filter, holds, matches_by}
 use Rattle.news_types.specs.declared.story.Story.{Story}
@@ -36,3 +36,7 @@ matches_of true_of (f ∷ fs) = matches_of true_of fs ++ matches_by true_of (f �
 pub record AreVerdicts (v : Verdicts) (t : Filters) (condition : Bytes → Option Condition) (fs : List Filter) (story : Story) : Type 0 where
   pub conditions : (name : Bytes) → verdict_at t.condition_places v.conditions.items name ≡ truth condition story name
   pub filters : v.filters.items ≡ matches_of (truth condition story) fs
+
+-- by these verdicts the filter of that name matches, and it is a global block that is not switched off
+abbrev pub stops_at : Filters → Verdicts → List Bytes → Bytes → Bool
+stops_at t v off name = verdict_at t.filter_places v.filters.items name && is_in name t.blocks.items && not (is_in name off)

@@ -7,8 +7,9 @@ ghost use Rattle.news_types.specs.Conditions.{Condition, condition, is_true_of};
 ghost use Rattle.news_types.specs.Filters.{Filter, filters, has_filter, is_filter, holds, matches};
 ghost use Rattle.news_types.specs.declared.story.Story.{Story};
 ghost use Rattle.content_filters.specs.Kept.{condition_of, verdict_at, AreBlocks};
-ghost use Rattle.content_filters.specs.Keeps.{Keeps, AreVerdicts, judged};
+ghost use Rattle.content_filters.specs.Keeps.{Keeps, AreVerdicts, judged, stops_at};
 ghost use Rattle.content_filters.specs.Reasons.{KeepsFacts};
+ghost use Rattle.feed_reasons.specs.Verdicts.{block};
 
 use crate::condition::KeptCondition;
 use crate::places::{place_of, verdict_at};
@@ -111,6 +112,31 @@ impl Filters {
             → result ≡ matches h filter.now story }
     {
         verdict_at(&self.filter_places, verdicts.filters.as_slice(), filter)
+    }
+
+    /// The youngest global block that is not among `off` and matches the story for which the verdicts were made. It
+    /// takes no memory.
+    pub fn block(&self, verdicts: &Verdicts, off: &[Name]) -> Option<Name>
+        ensures { (h : History) (story : Story) → KeepsFacts self.now h → AreVerdicts verdicts.now self.now (condition h) (filters h) story
+            → result ≡ block h story off.now }
+    {
+        // The filters stand in the order of age, so that the last that stops the story is the youngest.
+        let mut youngest = None;
+        for filter in self.filters.iter() {
+            if self.stops(verdicts, off, &filter.name) {
+                youngest = Some(filter.name);
+            }
+        }
+        youngest
+    }
+
+    /// Whether the filter matches, and is a global block that is not among `off`.
+    fn stops(&self, verdicts: &Verdicts, off: &[Name], name: &Name) -> bool
+        ensures { result ≡ stops_at self.now verdicts.now off.now name.now }
+    {
+        verdict_at(&self.filter_places, verdicts.filters.as_slice(), name)
+            && name.is_among(self.blocks.as_slice())
+            && !name.is_among(off)
     }
 
     /// The truth of every condition, in the order of age.

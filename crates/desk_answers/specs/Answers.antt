@@ -10,6 +10,7 @@ use Rattle.news_types.specs.declared.query.Holder.{Holder}
 use Rattle.news_types.specs.declared.query.FeedRow.{FeedRow}
 use Rattle.news_types.specs.declared.query.ItemRow.{ItemRow}
 use Rattle.news_types.specs.declared.query.QueueRow.{QueueRow}
+use Rattle.news_types.specs.declared.query.Publication.{Publication}
 use Rattle.news_types.specs.declared.query.Answer.{Answer}
 use Rattle.news_types.specs.declared.query.Answer.TheVariants as told
 use Rattle.news_types.specs.Names.{Bytes}
@@ -111,6 +112,18 @@ abbrev pub check_bytes : ℕ → ℕ → ℕ → List ℕ
 check_bytes entries moment publications =
     written (answering "check" with number "entries" entries with number "moment" moment with number "publications" publications)
 
+-- ---- publication
+
+-- a publication with its story, and what it is to those who have its item
+unfoldable pub publication : Publication → Members
+publication p =
+    answering "publication" with text "act" (kind_word p.kind) with number "item" p.item with number "release" p.release
+    with number "version" p.version with inner "story" (story p.story)
+
+-- how many there are
+abbrev pub no_publication_bytes : ℕ → List ℕ
+no_publication_bytes count = written (answering "no-publication" with number "count" count)
+
 -- ---- answers
 
 -- the answers that have a line: those to the questions that a line can ask, and that a thing is not there
@@ -119,14 +132,14 @@ HasLine (told.Feed subscriber length rows) = Unit {0}
 HasLine (told.Item row) = Unit {0}
 HasLine (told.Queue rows) = Unit {0}
 HasLine (told.Check entries moment publications) = Unit {0}
+HasLine (told.Publication publication) = Unit {0}
+HasLine (told.NoPublication count) = Unit {0}
 HasLine (told.Unknown thing) = Unit {0}
 -- only HTTP asks these
 HasLine (told.Frame bytes) = ⊥
 HasLine (told.NoFrame length) = ⊥
 HasLine (told.May allowed) = ⊥
--- only calls of a program ask these
-HasLine (told.Publication publication) = ⊥
-HasLine (told.NoPublication count) = ⊥
+-- only calls of a program ask this
 HasLine (told.Number number) = ⊥
 
 -- An unknown thing is denied.
@@ -135,5 +148,7 @@ answer_bytes (told.Feed subscriber length rows) = feed_bytes subscriber length r
 answer_bytes (told.Item row) = item_bytes row
 answer_bytes (told.Queue rows) = queue_bytes rows
 answer_bytes (told.Check entries moment publications) = check_bytes entries moment publications
+answer_bytes (told.Publication p) = written (publication p)
+answer_bytes (told.NoPublication count) = no_publication_bytes count
 answer_bytes (told.Unknown thing) = denial_bytes (UnknownThing thing)
 answer_bytes _ = []

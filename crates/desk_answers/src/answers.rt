@@ -12,7 +12,8 @@ use crate::told::Shown;
 use crate::words;
 use desk_lines::{LineProperty, word_of_property};
 use news_types::{
-    Answer, Bytes, Denial, FeedRow, Holder, ItemRow, Memory, Name, Place, QueueRow, Reply, Story,
+    Answer, Bytes, Denial, FeedRow, Holder, ItemRow, Memory, Name, Place, Publication, QueueRow,
+    Reply, Story,
 };
 use std::alloc::{AllocError, Global};
 
@@ -90,10 +91,10 @@ fn of_property(told: Told, property: Option<&str>) -> Result<Told, AllocError>
     }
 }
 
-/// The answer to a question of a line: a feed, an item, the queue, the check, or that a thing is not there.
+/// The answer to a question of a line: a feed, an item, the queue, the check, a publication, or that a thing is not there.
 ///
 /// The other answers have no line, and so the condition rules them out: frames and whether a user may are for HTTP, and
-/// publications and their numbers for the calls of a program.
+/// numbers of publications for the calls of a program.
 pub fn answer_text(alloc: Global, answer: &Answer) -> Result<Bytes, Memory>
     requires { said.HasLine answer.now }
     ensures { IfOk result (λ bytes. bytes ≡ said.answer_bytes answer.now) }
@@ -111,13 +112,11 @@ pub fn answer_text(alloc: Global, answer: &Answer) -> Result<Bytes, Memory>
             moment,
             publications,
         } => check_text(alloc, *entries, *moment, *publications),
+        Answer::Publication(publication) => publication_text(alloc, publication),
+        Answer::NoPublication { count } => no_publication_text(alloc, *count),
         Answer::Unknown { thing } => denial_text(alloc, &Denial::UnknownThing { thing: *thing }),
-        Answer::Frame(_)
-        | Answer::NoFrame { .. }
-        | Answer::May(_)
-        | Answer::Publication(_)
-        | Answer::NoPublication { .. }
-        | Answer::Number { .. } => unreachable!(),
+        Answer::Frame(_) | Answer::NoFrame { .. } | Answer::May(_) | Answer::Number { .. } =>
+            unreachable!(),
     }
 }
 
@@ -202,6 +201,35 @@ impl Shown for QueueRow {
             .text("subscriber", self.subscriber.as_str())?
             .number("tries", self.tries as u64)
     }
+}
+
+fn publication_text(alloc: Global, publication: &Publication) -> Result<Bytes, Memory>
+    ensures { IfOk result (λ bytes. bytes ≡ member.written (said.publication publication.now)) }
+{
+    publication_object(alloc, publication)?.written()
+}
+
+/// A publication with its story, and what it is to those who have its item.
+#[tactic(auto, unfolding(crate::specs::Answers::publication))]
+fn publication_object(alloc: Global, publication: &Publication) -> Result<Told, AllocError>
+    ensures { IfOk result (λ told. seen told ≡ said.publication publication.now) }
+{
+    let story = story(alloc, &publication.story)?;
+    Told::answering(alloc, "publication")?
+        .text("act", words::word_of_kind(publication.kind))?
+        .number("item", publication.item as u64)?
+        .number("release", publication.release)?
+        .number("version", publication.version as u64)?
+        .inner("story", story)
+}
+
+/// How many publications there are.
+fn no_publication_text(alloc: Global, count: u32) -> Result<Bytes, Memory>
+    ensures { IfOk result (λ bytes. bytes ≡ said.no_publication_bytes count) }
+{
+    Told::answering(alloc, "no-publication")?
+        .number("count", count as u64)?
+        .written()
 }
 
 fn check_text(alloc: Global, entries: u64, moment: u64, publications: u32) -> Result<Bytes, Memory>

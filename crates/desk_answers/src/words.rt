@@ -15,7 +15,8 @@ pub(crate) fn word_of_kind(kind: Kind) -> &'static str
     }
 }
 
-pub(crate) fn word_of_state(state: State) -> &'static str
+/// The state of an item, as it is written.
+pub fn word_of_state(state: State) -> &'static str
     ensures { result.now ≡ state_word state }
 {
     match state {

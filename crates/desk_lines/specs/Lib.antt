@@ -5,4 +5,5 @@ pub mod Words
 pub mod Objects
 pub mod Rows
 pub mod Commands
+pub mod Questions
 pub mod Lines

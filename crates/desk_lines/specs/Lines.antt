@@ -1,5 +1,5 @@
--- What a line says: a request, a question or a receipt, or the first property that is bad; and what packages and questions on
--- the archive say that come by themselves.
+-- What a line says: a request, a question or a receipt, or the first property that is bad; and what packages, targets and
+-- questions on the archive say that come by themselves.
 use Rattle.std.specs.Prelude.{ℕ, Bool, List, [], ◌∷◌, length, nat_le, is_some, if◌then◌else◌, Option, Some, None, Result, Ok, Err}
 use Rattle.serde_json.specs.Data.{Data}
 use Rattle.serde_json.specs.Find.{as_object}
@@ -20,6 +20,7 @@ use Rattle.desk_lines.specs.Forms.{whole, any_text, name, ◌means◌}
 use Rattle.desk_lines.specs.Rows.{Row, by_word}
 use Rattle.desk_lines.specs.Objects.{story, member}
 use Rattle.desk_lines.specs.Commands.{command, an_item}
+use Rattle.desk_lines.specs.Questions.{items, reach, targets}
 
 -- ---- requests
 
@@ -52,7 +53,12 @@ question_rows =
     ("item" means do item ← an_item; gives (asked.Query (query.Item item))) ∷
     ("queue" means gives (asked.Query query.Queue)) ∷
     ("check" means gives (asked.Query query.Check)) ∷
-    ("archive" means archive) ∷ []
+    ("archive" means archive) ∷
+    ("items" means do found ← items; gives (asked.Desk found)) ∷
+    ("reach" means do found ← reach; gives (asked.Desk found)) ∷
+    ("publication" means do
+      number ← needs the.Publication (whole 4294967295)
+      gives (asked.Query (query.Publication number))) ∷ []
 
 unfoldable pub question : Says Asked
 question = do word ← needs the.Ask any_text; (λ d. by_word question_rows word d (Err the.Ask))
@@ -104,6 +110,9 @@ story_object bytes = then_read (object_in bytes) story
 
 abbrev pub archive_body : List ℕ → Result Asked LineProperty
 archive_body bytes = then_read (object_in bytes) archive
+
+abbrev pub reach_body : List ℕ → Result (List Bytes) LineProperty
+reach_body bytes = then_read (object_in bytes) targets
 
 -- ---- packages
 

@@ -1,7 +1,9 @@
--- The words of commands.
+-- The words of commands and questions.
 use Rattle.std.specs.Prelude.{ℕ, List, [], ◌∷◌}
 use Rattle.news_types.specs.declared.words.Media.{Media}
 use Rattle.news_types.specs.declared.words.Media.TheVariants as media
+use Rattle.news_types.specs.declared.words.State.{State}
+use Rattle.news_types.specs.declared.words.State.TheVariants as state
 use Rattle.news_types.specs.declared.words.Format.{Format}
 use Rattle.news_types.specs.declared.words.Format.TheVariants as format
 use Rattle.news_types.specs.declared.words.How.{How}
@@ -18,6 +20,14 @@ abbrev pub media_words : List (Bytes × Media)
 media_words =
     ("text" means media.Text) ∷ ("audio" means media.Audio) ∷ ("video" means media.Video) ∷
     ("picture" means media.Picture) ∷ ("graphic" means media.Graphic) ∷ ("composite" means media.Composite) ∷ []
+
+-- where an item is on its way
+abbrev pub state_words : List (Bytes × State)
+state_words =
+    ("draft" means state.Draft) ∷ ("ingested" means state.Ingested) ∷ ("routed" means state.Routed) ∷
+    ("fetched" means state.Fetched) ∷ ("submitted" means state.Submitted) ∷ ("in_progress" means state.InProgress) ∷
+    ("spiked" means state.Spiked) ∷ ("scheduled" means state.Scheduled) ∷ ("published" means state.Published) ∷
+    ("corrected" means state.Corrected) ∷ ("killed" means state.Killed) ∷ ("recalled" means state.Recalled) ∷ []
 
 -- the form of a subscriber's feed
 abbrev pub format_words : List (Bytes × Format)

@@ -1,5 +1,6 @@
 //! What a line asks for.
 
+use desk_views::DeskQuestion;
 use news_types::{Command, Name, Query, Text};
 
 /// What a line asks for.
@@ -23,4 +24,6 @@ pub enum Asked {
         page: u32,
         query: Text,
     },
+    /// A question of a desk.
+    Desk(DeskQuestion),
 }

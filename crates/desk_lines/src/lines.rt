@@ -12,7 +12,8 @@ use crate::commands::{command, item};
 use crate::fields::{given, needs_any_text, needs_name, needs_whole};
 use crate::objects::{each, story_of};
 use crate::property::{LineFault, LineProperty};
-use news_types::{Name, Query, Story, Text};
+use crate::questions::{items, reach, targets};
+use news_types::{Name, Names, Query, Story, Text};
 use package_members::{Members, makes_package};
 use serde_json::Value;
 use std::alloc::Global;
@@ -83,6 +84,19 @@ pub fn read_archive_body(alloc: Global, body: &[u8]) -> Result<Asked, LineFault>
 {
     let object = object_in(alloc, body)?;
     archive(alloc, &object)
+}
+
+/// Reads the targets that a publication would have: an object with `targets`, a list of at most 256 names, or without, which
+/// is none.
+///
+/// # Errors
+///
+/// As those of `read_line`.
+pub fn read_reach_body(alloc: Global, body: &[u8]) -> Result<Names, LineFault>
+    ensures { IsRead (said.reach_body body.now) result }
+{
+    let object = object_in(alloc, body)?;
+    targets(alloc, &object)
 }
 
 /// A package as an object has it: a story, and the members.
@@ -278,6 +292,11 @@ fn question(alloc: Global, object: &Value) -> Result<Asked, LineFault>
         "queue" => Ok(Asked::Query(Query::Queue)),
         "check" => Ok(Asked::Query(Query::Check)),
         "archive" => archive(alloc, object),
+        "items" => Ok(Asked::Desk(items(object)?)),
+        "reach" => Ok(Asked::Desk(reach(alloc, object)?)),
+        "publication" => Ok(Asked::Query(Query::Publication {
+            number: needs_whole(object, LineProperty::Publication, 4294967295)? as u32,
+        })),
         _ => Err(LineFault::Bad {
             property: LineProperty::Ask,
         }),

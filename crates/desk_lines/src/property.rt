@@ -70,6 +70,9 @@ pub enum LineProperty {
     Query,
     Members,
     Role,
+    Below,
+    State,
+    Publication,
 }
 
 /// Why a line is not read.
@@ -180,5 +183,8 @@ pub fn word_of_property(property: LineProperty) -> &'static str
         LineProperty::Query => "query",
         LineProperty::Members => "members",
         LineProperty::Role => "role",
+        LineProperty::Below => "below",
+        LineProperty::State => "state",
+        LineProperty::Publication => "publication",
     }
 }

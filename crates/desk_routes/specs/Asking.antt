@@ -1,15 +1,17 @@
 -- What a request asks, or why it is refused before anything is asked.
-use Rattle.std.specs.Prelude.{◌≡◌, ℕ, IsTrue, Option, Some, None, Result, Ok, Err}
+use Rattle.std.specs.Prelude.{◌≡◌, ℕ, IsTrue, List, [], Option, Some, None, Result, Ok, Err}
 use Rattle.news_types.specs.declared.story.Incoming.{Incoming}
 use Rattle.news_types.specs.declared.query.Query.TheVariants as query
 use Rattle.news_types.specs.Names.{Bytes}
 use Rattle.news_types.specs.Fits.{FitsStory, FitsIncoming}
 use Rattle.news_types.specs.FitsCommands.{FitsCommand}
+use Rattle.desk_views.specs.declared.question.DeskQuestion.{DeskQuestion}
+use Rattle.desk_views.specs.declared.question.DeskQuestion.TheVariants as desk
 use Rattle.desk_lines.specs.declared.asked.Asked.{Asked}
 use Rattle.desk_lines.specs.declared.asked.Asked.TheVariants as line
 use Rattle.desk_lines.specs.declared.lines.PackageRequest.{PackageRequest}
 use Rattle.desk_lines.specs.declared.property.LineProperty.{LineProperty}
-use Rattle.desk_lines.specs.Lines.{request_body, receipt_body, archive_body, package_body}
+use Rattle.desk_lines.specs.Lines.{request_body, receipt_body, archive_body, package_body, reach_body}
 use Rattle.package_members.specs.Members.{make_package}
 use Rattle.ninjs_text.specs.declared.fault.NinjsFault.{NinjsFault}
 use Rattle.ninjs_text.specs.Item.{ninjs}
@@ -17,8 +19,10 @@ use Rattle.http_wire.specs.declared.request.HttpRequest.{HttpRequest}
 use Rattle.desk_routes.specs.declared.route.Route.{Route}
 use Rattle.desk_routes.specs.declared.route.Route.TheVariants as the
 use Rattle.desk_routes.specs.declared.ask.HttpAsk.{HttpAsk}
-use Rattle.desk_routes.specs.declared.ask.HttpAsk.TheVariants.{Request, Query, Receipt, Ingest, Archive, Package, Contents}
+use Rattle.desk_routes.specs.declared.ask.HttpAsk.TheVariants.{Request, Query, Receipt, Ingest, Archive, Package, Contents, Desk}
 use Rattle.desk_routes.specs.declared.ask.Asking.{Asking}
+use Rattle.desk_routes.specs.declared.ask.HttpAsked.{HttpAsked}
+use Rattle.desk_routes.specs.declared.ask.HttpAsked.TheVariants.{By, Metrics}
 use Rattle.desk_routes.specs.declared.ask.Refusal.{Refusal}
 use Rattle.desk_routes.specs.declared.ask.Refusal.TheVariants.{NoRoute, NoCaller, BadPath, BadBody, BadItem, Memory}
 use Rattle.desk_routes.specs.Routes.{routed}
@@ -56,6 +60,7 @@ of_line (line.Request caller number command) = Request caller number command
 of_line (line.Query question) = Query question
 of_line (line.Receipt subscriber n) = Receipt subscriber n
 of_line (line.Archive page query) = Archive page query
+of_line (line.Desk question) = Desk question
 
 abbrev pub from_line : Result Asked LineProperty → Result HttpAsk Refusal
 from_line (Ok asked) = Ok (of_line asked)
@@ -68,6 +73,10 @@ from_item provider (Err fault) = Err (BadItem fault)
 abbrev pub from_package : Bytes → Result PackageRequest LineProperty → Result HttpAsk Refusal
 from_package caller (Ok read) = Ok (Package caller read.number read.described)
 from_package caller (Err property) = Err (BadBody property)
+
+abbrev pub from_targets : ℕ → Result (List Bytes) LineProperty → Result HttpAsk Refusal
+from_targets item (Ok targets) = Ok (Desk (desk.Reach item targets))
+from_targets item (Err property) = Err (BadBody property)
 
 -- ---- each route
 
@@ -115,6 +124,36 @@ contents_ask path = do
   publication ← number_at 2 path
   Ok (Contents publication)
 
+-- what stands on no desk in particular, below this number
+abbrev pub items_ask : Bytes → Result HttpAsk Refusal
+items_ask path = do
+  below ← number_at 3 path
+  Ok (Desk (desk.Items None below None None))
+
+-- what stands on a desk, below this number
+abbrev pub desk_items_ask : Bytes → Result HttpAsk Refusal
+desk_items_ask path = do
+  name ← name_at 2 path
+  below ← number_at 5 path
+  Ok (Desk (desk.Items (Some name) below None None))
+
+-- whom the item would reach without a target
+abbrev pub reach_ask : Bytes → Result HttpAsk Refusal
+reach_ask path = do
+  item ← number_at 2 path
+  Ok (Desk (desk.Reach item []))
+
+-- with the targets that the object has
+abbrev pub targets_ask : Bytes → Bytes → Result HttpAsk Refusal
+targets_ask path body = do
+  item ← number_at 2 path
+  from_targets item (reach_body body)
+
+abbrev pub publication_ask : Bytes → Result HttpAsk Refusal
+publication_ask path = do
+  number ← number_at 2 path
+  Ok (Query (query.Publication number))
+
 -- what a caller asks by a route: with this path and this body
 abbrev pub ask_by : Route → Bytes → Bytes → Bytes → Result HttpAsk Refusal
 ask_by the.Requests caller path body = request_ask caller body
@@ -127,16 +166,43 @@ ask_by the.Ingest caller path body = ingest_ask path body
 ask_by the.Archive caller path body = archive_ask body
 ask_by the.Packages caller path body = package_ask caller body
 ask_by the.Contents caller path body = contents_ask path
+ask_by the.ItemsBelow caller path body = items_ask path
+ask_by the.DeskItemsBelow caller path body = desk_items_ask path
+ask_by the.Reach caller path body = reach_ask path
+ask_by the.ReachOfTargets caller path body = targets_ask path body
+ask_by the.Publication caller path body = publication_ask path
+-- the metrics are asked without a caller (`asked_by`)
+ask_by the.Metrics caller path body = Err NoRoute
 
 -- ---- requests
 
--- the route, the caller's name, the names and numbers of the path, and then the body
-abbrev pub asking : HttpRequest → Result Asking Refusal
-asking r = do
-  route ← or_refused NoRoute (routed r.method r.target)
+-- the caller's name, the names and numbers of the path, and then the body
+abbrev pub asking : Route → HttpRequest → Result Asking Refusal
+asking route r = do
   caller ← or_refused NoCaller r.user
   ask ← ask_by route caller r.target r.body
   Ok (record { caller = caller; ask = ask })
+
+abbrev pub asked_by : Route → HttpRequest → Result HttpAsked Refusal
+asked_by the.Metrics r = Ok Metrics
+asked_by route r = do
+  a ← asking route r
+  Ok (By a)
+
+-- what is asked by the route that it has
+abbrev pub asked : HttpRequest → Result HttpAsked Refusal
+asked r = do
+  route ← or_refused NoRoute (routed r.method r.target)
+  asked_by route r
+
+-- the name of a provider in the path of an item that it brings in
+abbrev pub provider_by : Option Route → Bytes → Option Bytes
+provider_by (Some the.Ingest) path = name_in (part 2 path)
+provider_by route path = None
+
+-- the provider in whose name a request's route takes an item in
+abbrev pub provider_of : HttpRequest → Option Bytes
+provider_of r = provider_by (routed r.method r.target) r.target
 
 -- what is asked is within the limits
 abbrev pub FitsAsk : HttpAsk → Type 0
@@ -144,3 +210,7 @@ FitsAsk (Request caller number command) = FitsCommand command
 FitsAsk (Ingest provider incoming) = FitsIncoming incoming
 FitsAsk (Package caller number described) = FitsStory described.story × IsTrue (make_package described.members)
 FitsAsk _ = Unit {0}
+
+abbrev pub FitsAsked : HttpAsked → Type 0
+FitsAsked Metrics = Unit {0}
+FitsAsked (By a) = FitsAsk a.ask

@@ -14,7 +14,7 @@ use Rattle.ninjs_text.specs.Properties.{property_name}
 use Rattle.desk_routes.specs.declared.ask.Refusal.{Refusal}
 use Rattle.desk_routes.specs.declared.ask.Refusal.TheVariants.{NoRoute, NoCaller, BadPath, BadBody, BadItem, Memory}
 use Rattle.desk_routes.specs.declared.response.Media.{Media}
-use Rattle.desk_routes.specs.declared.response.Media.TheVariants.{Json, Octets}
+use Rattle.desk_routes.specs.declared.response.Media.TheVariants.{Json, Octets, Metrics}
 use Rattle.desk_routes.specs.declared.response.Response.{Response}
 use Rattle.desk_routes.specs.declared.response.Notice.{Notice}
 use Rattle.desk_routes.specs.declared.response.Notice.TheVariants as notice
@@ -22,6 +22,7 @@ use Rattle.desk_routes.specs.declared.response.Notice.TheVariants as notice
 abbrev pub media_text : Media → Bytes
 media_text Json = codes "application/json"
 media_text Octets = codes "application/octet-stream"
+media_text Metrics = codes "text/plain; version=0.0.4"
 
 abbrev pub told_as : ℕ → Bytes → Response
 told_as status body = record { status = status; media = Json; body = body }
@@ -29,6 +30,10 @@ told_as status body = record { status = status; media = Json; body = body }
 -- without a body
 abbrev pub bare : ℕ → Response
 bare status = told_as status []
+
+-- the metrics as they are
+abbrev pub metrics_response : Bytes → Response
+metrics_response body = record { status = 200; media = Metrics; body = body }
 
 -- ---- what the room says
 
@@ -54,12 +59,17 @@ answered_response (Done reply) = reply_response reply false
 answered_response (Repeat reply) = reply_response reply true
 answered_response (Denied denial) = denial_response denial
 
--- to a question: a frame as it is, and 404 where there is no such thing or no such frame
+-- 404 where there is no such publication
+abbrev pub answer_status : Answer → ℕ
+answer_status (told.NoPublication count) = 404
+answer_status _ = 200
+
+-- to a question: a frame as it is, and 404 where there is no such thing, publication or frame
 abbrev pub answer_response : Answer → Response
 answer_response (told.Frame bytes) = record { status = 200; media = Octets; body = bytes }
 answer_response (told.NoFrame length) = bare 404
 answer_response (told.Unknown thing) = denial_response (UnknownThing thing)
-answer_response answer = told_as 200 (answer_bytes answer)
+answer_response answer = told_as (answer_status answer) (answer_bytes answer)
 
 -- ---- what is refused before the room is asked
 

@@ -40,6 +40,7 @@ right_of (ask.Archive page query) = User
 -- a user, whose flash is judged by the rules of requests besides
 right_of (ask.Package caller number described) = User
 right_of (ask.Contents publication) = User
+right_of (ask.Desk question) = User
 
 -- ---- how it is found out
 

@@ -8,7 +8,7 @@ use Rattle.matchit.specs.Seek.{first}
 use Rattle.matchit.specs.declared.error.InsertError.{InsertError}
 use Rattle.news_types.specs.Names.{Bytes, same}
 use Rattle.desk_routes.specs.declared.route.Route.{Route}
-use Rattle.desk_routes.specs.declared.route.Route.TheVariants.{Requests, Item, Queue, FeedAfter, Frame, Receipts, Ingest, Archive, Packages, Contents}
+use Rattle.desk_routes.specs.declared.route.Route.TheVariants.{Requests, Item, Queue, FeedAfter, Frame, Receipts, Ingest, Archive, Packages, Contents, ItemsBelow, DeskItemsBelow, Reach, ReachOfTargets, Publication, Metrics}
 
 -- what the paths of a route look like
 abbrev pub pattern_of : Route → Bytes
@@ -22,6 +22,12 @@ pattern_of Ingest = codes "/ingest/{provider}/ninjs"
 pattern_of Archive = codes "/archive"
 pattern_of Packages = codes "/packages"
 pattern_of Contents = codes "/publications/{publication}/contents"
+pattern_of ItemsBelow = codes "/items/below/{n}"
+pattern_of DeskItemsBelow = codes "/desks/{desk}/items/below/{n}"
+pattern_of Reach = codes "/items/{item}/reach"
+pattern_of ReachOfTargets = codes "/items/{item}/reach"
+pattern_of Publication = codes "/publications/{publication}"
+pattern_of Metrics = codes "/metrics"
 
 -- the one method of a route
 abbrev pub method_of : Route → Bytes
@@ -35,6 +41,17 @@ method_of Ingest = codes "POST"
 method_of Archive = codes "POST"
 method_of Packages = codes "POST"
 method_of Contents = codes "GET"
+method_of ItemsBelow = codes "GET"
+method_of DeskItemsBelow = codes "GET"
+method_of Reach = codes "GET"
+method_of ReachOfTargets = codes "POST"
+method_of Publication = codes "GET"
+method_of Metrics = codes "GET"
+
+-- the other route of its path, by another method; most paths have one route
+abbrev pub beside : Route → Route
+beside Reach = ReachOfTargets
+beside route = route
 
 -- the rows of a router of routes
 abbrev pub Rows : Type 0
@@ -48,10 +65,15 @@ with_read (Err error) route rows = rows
 abbrev pub with_route : Route → Rows → Rows
 with_route route rows = with_read (parse_route (pattern_of route)) route rows
 
--- the rows of the ten routes
-abbrev pub ten : Rows
-ten =
-    with_route Contents
+-- the rows of the fifteen paths
+abbrev pub fifteen : Rows
+fifteen =
+    with_route Metrics
+    (with_route Publication
+    (with_route Reach
+    (with_route DeskItemsBelow
+    (with_route ItemsBelow
+    (with_route Contents
     (with_route Packages
     (with_route Archive
     (with_route Ingest
@@ -60,7 +82,7 @@ ten =
     (with_route FeedAfter
     (with_route Queue
     (with_route Item
-    (with_route Requests [])))))))))
+    (with_route Requests []))))))))))))))
 
 abbrev pub value_of : Option (RouteOf Route) → Option Route
 value_of None = None
@@ -68,11 +90,15 @@ value_of (Some row) = Some row.value
 
 -- the route of a path
 abbrev pub route_of : Bytes → Option Route
-route_of path = value_of (first ten path)
+route_of path = value_of (first fifteen path)
 
+abbrev pub if_its_method : Bytes → Route → Option Route
+if_its_method method route = if same method (method_of route) then Some route else None
+
+-- the route or the other one of its path, by the method
 abbrev pub if_method : Bytes → Option Route → Option Route
 if_method method None = None
-if_method method (Some route) = if same method (method_of route) then Some route else None
+if_method method (Some route) = if same method (method_of route) then Some route else if_its_method method (beside route)
 
 -- the route that has this method and path
 abbrev pub routed : Bytes → Bytes → Option Route

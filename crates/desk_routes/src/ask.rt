@@ -1,7 +1,7 @@
 //! What a request asks, or why it is refused before anything is asked.
 ghost use Rattle.std.specs.Prelude.{◌≡◌, IfOk};
 ghost use Rattle.desk_routes.specs.Asking as said;
-ghost use Rattle.desk_routes.specs.Asking.{FitsAsk, IsSaid, or_refused};
+ghost use Rattle.desk_routes.specs.Asking.{FitsAsk, FitsAsked, IsSaid, or_refused};
 ghost use Rattle.desk_routes.specs.Routes.{routed};
 ghost use Rattle.desk_routes.specs.declared.ask.Refusal.TheVariants.{NoRoute, NoCaller};
 
@@ -9,10 +9,11 @@ use crate::path::{name_at, number_at};
 use crate::route::{Route, Routes};
 use desk_lines::{
     Asked, Described, LineFault, LineProperty, read_archive_body, read_package_body,
-    read_receipt_body, read_request_body,
+    read_reach_body, read_receipt_body, read_request_body,
 };
+use desk_views::DeskQuestion;
 use http_wire::HttpRequest;
-use news_types::{Command, Incoming, Name, Query, Text};
+use news_types::{Command, Incoming, Name, Names, Query, Text};
 use ninjs_text::NinjsFault;
 use std::alloc::Global;
 
@@ -52,6 +53,8 @@ pub enum HttpAsk {
     Contents {
         publication: u32,
     },
+    /// A question of the desk.
+    Desk(DeskQuestion),
 }
 
 /// Who asks, and what.
@@ -59,6 +62,15 @@ pub enum HttpAsk {
 pub struct Asking {
     pub caller: Name,
     pub ask: HttpAsk,
+}
+
+/// What a request asks.
+#[derive(Drop)]
+pub enum HttpAsked {
+    /// Its caller asks it of the room.
+    By(Asking),
+    /// The metrics, for which nobody has to say a name.
+    Metrics,
 }
 
 /// Why a request is refused before anything is asked.
@@ -84,22 +96,47 @@ impl Routes {
     /// # Errors
     ///
     /// The first that holds of these: no route has its method and path, it has no caller, a name or a number in its path is
-    /// none, its body is not of the form. Where there is no memory, `Memory` may come in their place.
-    pub fn read_ask(&self, request: &HttpRequest) -> Result<Asking, Refusal>
-        ensures value { IsSaid (said.asking request.now) result }
-        ensures fits { IfOk result (λ asking. FitsAsk asking.ask) }
+    /// none, its body is not of the form. Where there is no memory, `Memory` may come in their place. The metrics need no caller.
+    pub fn read_ask(&self, request: &HttpRequest) -> Result<HttpAsked, Refusal>
+        ensures value { IsSaid (said.asked request.now) result }
+        ensures fits { IfOk result FitsAsked }
     {
         let route = route_of(self, request)?;
-        let caller = caller_of(request)?;
-        let ask = ask_by(
-            self.alloc(),
-            route,
-            caller,
-            request.target.as_str(),
-            request.body.as_slice(),
-        )?;
-        Ok(Asking { caller, ask })
+        asked_by(self.alloc(), route, request)
     }
+
+    /// The provider in whose name the route of a request takes an item in.
+    pub fn provider_of(&self, request: &HttpRequest) -> Option<Name>
+        ensures { result ≡ said.provider_of request.now }
+    {
+        let path = request.target.as_str();
+        match self.find(&request.method, path) {
+            Some(Route::Ingest) => name_at(path, 2),
+            _ => None,
+        }
+    }
+}
+
+/// What a request asks by a route.
+fn asked_by(alloc: Global, route: Route, request: &HttpRequest) -> Result<HttpAsked, Refusal>
+    ensures value { IsSaid (said.asked_by route request.now) result }
+    ensures fits { IfOk result FitsAsked }
+{
+    match route {
+        Route::Metrics => Ok(HttpAsked::Metrics),
+        route => Ok(HttpAsked::By(asking_of(alloc, route, request)?)),
+    }
+}
+
+/// Who asks by a route, and what.
+fn asking_of(alloc: Global, route: Route, request: &HttpRequest) -> Result<Asking, Refusal>
+    ensures value { IsSaid (said.asking route request.now) result }
+    ensures fits { IfOk result (λ asking. FitsAsk asking.ask) }
+{
+    let caller = caller_of(request)?;
+    let path = request.target.as_str();
+    let ask = ask_by(alloc, route, caller, path, request.body.as_slice())?;
+    Ok(Asking { caller, ask })
 }
 
 fn route_of(routes: &Routes, request: &HttpRequest) -> Result<Route, Refusal>
@@ -142,6 +179,12 @@ fn ask_by(
         Route::Archive => archive_ask(alloc, body),
         Route::Packages => package_ask(alloc, caller, body),
         Route::Contents => contents_ask(path),
+        Route::ItemsBelow => items_ask(path),
+        Route::DeskItemsBelow => desk_items_ask(path),
+        Route::Reach => reach_ask(alloc, path),
+        Route::ReachOfTargets => targets_ask(alloc, path, body),
+        Route::Publication => publication_ask(path),
+        Route::Metrics => Err(Refusal::NoRoute),
     }
 }
 
@@ -258,6 +301,66 @@ fn contents_ask(path: &str) -> Result<HttpAsk, Refusal>
     Ok(HttpAsk::Contents { publication })
 }
 
+fn items_ask(path: &str) -> Result<HttpAsk, Refusal>
+    ensures value { result ≡ said.items_ask path.now }
+    ensures fits { IfOk result FitsAsk }
+{
+    let below = needs_number(path, 3)?;
+    Ok(items_below(None, below))
+}
+
+fn desk_items_ask(path: &str) -> Result<HttpAsk, Refusal>
+    ensures value { result ≡ said.desk_items_ask path.now }
+    ensures fits { IfOk result FitsAsk }
+{
+    let desk = needs_name(path, 2)?;
+    let below = needs_number(path, 5)?;
+    Ok(items_below(Some(desk), below))
+}
+
+/// The question for the items of a desk, or of all, in any state and held by anyone.
+fn items_below(desk: Option<Name>, below: u32) -> HttpAsk
+    ensures { result ≡ HttpAsk.Desk (DeskQuestion.Items desk below None None) }
+{
+    HttpAsk::Desk(DeskQuestion::Items {
+        desk,
+        below,
+        state: None,
+        user: None,
+    })
+}
+
+fn reach_ask(alloc: Global, path: &str) -> Result<HttpAsk, Refusal>
+    ensures value { result ≡ said.reach_ask path.now }
+    ensures fits { IfOk result FitsAsk }
+{
+    let item = needs_number(path, 2)?;
+    Ok(HttpAsk::Desk(DeskQuestion::Reach {
+        item,
+        targets: Names::of(Vec::new(alloc)),
+    }))
+}
+
+fn targets_ask(alloc: Global, path: &str, body: &[u8]) -> Result<HttpAsk, Refusal>
+    ensures value { IsSaid (said.targets_ask path.now body.now) result }
+    ensures fits { IfOk result FitsAsk }
+{
+    let item = needs_number(path, 2)?;
+    match read_reach_body(alloc, body) {
+        Ok(targets) => Ok(HttpAsk::Desk(DeskQuestion::Reach { item, targets })),
+        Err(LineFault::Bad { property }) => Err(Refusal::BadBody { property }),
+        Err(LineFault::Memory) => Err(Refusal::Memory),
+    }
+}
+
+fn publication_ask(path: &str) -> Result<HttpAsk, Refusal>
+    ensures value { result ≡ said.publication_ask path.now }
+    ensures fits { IfOk result FitsAsk }
+{
+    let number = needs_number(path, 2)?;
+    Ok(HttpAsk::Query(Query::Publication { number }))
+}
+
 fn of_line(asked: Asked) -> HttpAsk
     ensures { result ≡ said.of_line asked }
 {
@@ -274,5 +377,6 @@ fn of_line(asked: Asked) -> HttpAsk
         Asked::Query(query) => HttpAsk::Query(query),
         Asked::Receipt { subscriber, n } => HttpAsk::Receipt { subscriber, n },
         Asked::Archive { page, query } => HttpAsk::Archive { page, query },
+        Asked::Desk(question) => HttpAsk::Desk(question),
     }
 }

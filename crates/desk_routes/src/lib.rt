@@ -12,11 +12,11 @@ mod response;
 mod rights;
 mod route;
 
-pub use ask::{Asking, HttpAsk, Refusal};
+pub use ask::{Asking, HttpAsk, HttpAsked, Refusal};
 pub use laws::paths_law;
 pub use response::{
     Media, Notice, Response, notify, refuse, respond_answer, respond_denial, respond_reply,
-    status_of_denial, told_as,
+    status_of_denial, told_as, told_metrics,
 };
 pub use rights::{Gate, Right, allows, gate_of, right_of};
 pub use route::{Route, Routes};

@@ -14,6 +14,8 @@ use std::alloc::Global;
 pub enum Media {
     Json,
     Octets,
+    /// Metrics, in the text format of Prometheus.
+    Metrics,
 }
 
 impl Media {
@@ -24,6 +26,7 @@ impl Media {
         match self {
             Media::Json => "application/json",
             Media::Octets => "application/octet-stream",
+            Media::Metrics => "text/plain; version=0.0.4",
         }
     }
 }
@@ -83,6 +86,17 @@ pub fn told_as(status: u16, body: Bytes) -> Response
     }
 }
 
+/// The response whose body is the metrics. It takes no memory.
+pub fn told_metrics(body: Bytes) -> Response
+    ensures { result ≡ said.metrics_response body }
+{
+    Response {
+        status: 200,
+        media: Media::Metrics,
+        body,
+    }
+}
+
 fn bare(alloc: Global, status: u16) -> Response
     ensures { result ≡ said.bare status }
 {
@@ -122,6 +136,16 @@ pub fn respond_denial(alloc: Global, denial: &Denial) -> Result<Response, Memory
     Ok(told_as(status_of_denial(denial), body))
 }
 
+/// The status of an answer that has a line: 404 where there is no such publication.
+fn status_of_answer(answer: &Answer) -> u16
+    ensures { result ≡ said.answer_status answer.now }
+{
+    match answer {
+        Answer::NoPublication { .. } => 404,
+        _ => 200,
+    }
+}
+
 /// The response to a question.
 pub fn respond_answer(alloc: Global, answer: Answer) -> Result<Response, Memory>
     ensures { IfOk result (λ response. response ≡ said.answer_response answer) }
@@ -134,11 +158,8 @@ pub fn respond_answer(alloc: Global, answer: Answer) -> Result<Response, Memory>
         }),
         Answer::NoFrame { .. } => Ok(bare(alloc, 404)),
         Answer::Unknown { thing } => respond_denial(alloc, &Denial::UnknownThing { thing }),
-        Answer::May(_)
-        | Answer::Publication(_)
-        | Answer::NoPublication { .. }
-        | Answer::Number { .. } => Ok(bare(alloc, 200)),
-        line => Ok(told_as(200, answer_text(alloc, &line)?)),
+        Answer::May(_) | Answer::Number { .. } => Ok(bare(alloc, 200)),
+        line => Ok(told_as(status_of_answer(&line), answer_text(alloc, &line)?)),
     }
 }
 

@@ -40,6 +40,7 @@ pub fn right_of(ask: &HttpAsk) -> Right
         HttpAsk::Receipt { subscriber, .. } => Right::Subscriber(*subscriber),
         HttpAsk::Ingest { .. } => Right::Holder(Privilege::Ingest),
         HttpAsk::Archive { .. } | HttpAsk::Package { .. } | HttpAsk::Contents { .. } => Right::User,
+        HttpAsk::Desk(_) => Right::User,
     }
 }
 

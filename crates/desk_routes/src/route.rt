@@ -1,6 +1,6 @@
 //! The routes of requests.
 ghost use Rattle.std.specs.Prelude.{◌≡◌, IfOk, OnOk};
-ghost use Rattle.desk_routes.specs.Routes.{if_method, method_of, pattern_of, route_of, routed, ten, with_route};
+ghost use Rattle.desk_routes.specs.Routes.{beside, fifteen, if_its_method, if_method, method_of, pattern_of, route_of, routed, with_route};
 
 use http::Method;
 use matchit::Router;
@@ -21,6 +21,12 @@ pub enum Route {
     Archive,
     Packages,
     Contents,
+    ItemsBelow,
+    DeskItemsBelow,
+    Reach,
+    ReachOfTargets,
+    Publication,
+    Metrics,
 }
 
 impl Route {
@@ -39,6 +45,11 @@ impl Route {
             Route::Archive => "/archive",
             Route::Packages => "/packages",
             Route::Contents => "/publications/{publication}/contents",
+            Route::ItemsBelow => "/items/below/{n}",
+            Route::DeskItemsBelow => "/desks/{desk}/items/below/{n}",
+            Route::Reach | Route::ReachOfTargets => "/items/{item}/reach",
+            Route::Publication => "/publications/{publication}",
+            Route::Metrics => "/metrics",
         }
     }
 
@@ -47,9 +58,32 @@ impl Route {
         ensures { result.now ≡ method_of self }
     {
         match self {
-            Route::Requests | Route::Receipts | Route::Ingest | Route::Archive | Route::Packages =>
-                "POST",
-            Route::Item | Route::Queue | Route::FeedAfter | Route::Frame | Route::Contents => "GET",
+            Route::Requests
+            | Route::Receipts
+            | Route::Ingest
+            | Route::Archive
+            | Route::Packages
+            | Route::ReachOfTargets => "POST",
+            Route::Item
+            | Route::Queue
+            | Route::FeedAfter
+            | Route::Frame
+            | Route::Contents
+            | Route::ItemsBelow
+            | Route::DeskItemsBelow
+            | Route::Reach
+            | Route::Publication
+            | Route::Metrics => "GET",
+        }
+    }
+
+    /// The other route of its path, by another method; where there is none, itself.
+    pub fn beside(self) -> Route
+        ensures { result ≡ beside self }
+    {
+        match self {
+            Route::Reach => Route::ReachOfTargets,
+            route => route,
         }
     }
 }
@@ -64,9 +98,9 @@ fn put(router: &mut Router<Route>, route: Route) -> Result<(), Memory>
     }
 }
 
-/// The router of the ten routes.
+/// The router of the fifteen paths.
 fn router_of_all(alloc: Global) -> Result<Router<Route>, Memory>
-    ensures { IfOk result (λ router. router ≡ ten) }
+    ensures { IfOk result (λ router. router ≡ fifteen) }
 {
     let mut router = Router::new(alloc);
     put(&mut router, Route::Requests)?;
@@ -79,12 +113,17 @@ fn router_of_all(alloc: Global) -> Result<Router<Route>, Memory>
     put(&mut router, Route::Archive)?;
     put(&mut router, Route::Packages)?;
     put(&mut router, Route::Contents)?;
+    put(&mut router, Route::ItemsBelow)?;
+    put(&mut router, Route::DeskItemsBelow)?;
+    put(&mut router, Route::Reach)?;
+    put(&mut router, Route::Publication)?;
+    put(&mut router, Route::Metrics)?;
     Ok(router)
 }
 
 /// The route of a path.
 fn route_at(router: &Router<Route>, path: &str) -> Option<Route>
-    requires { router.now ≡ ten }
+    requires { router.now ≡ fifteen }
     ensures { result ≡ route_of path.now }
 {
     match router.at(path) {
@@ -93,7 +132,7 @@ fn route_at(router: &Router<Route>, path: &str) -> Option<Route>
     }
 }
 
-/// The ten routes by their paths: made once, for any number of requests.
+/// The routes by their fifteen paths: made once, for any number of requests.
 #[derive(Drop)]
 pub struct Routes {
     alloc: Global,
@@ -102,13 +141,13 @@ pub struct Routes {
 
 impl Model for Routes {
     ghost use Rattle.std.specs.Prelude.{◌≡◌};
-    ghost use Rattle.desk_routes.specs.Routes.{ten};
+    ghost use Rattle.desk_routes.specs.Routes.{fifteen};
 
     ghost Value = { Unit {0} };
 
     ghost view = { λ a. tt };
 
-    ghost invariant = { λ a. a.router ≡ ten };
+    ghost invariant = { λ a. a.router ≡ fifteen };
 }
 
 impl Routes {
@@ -136,9 +175,20 @@ impl Routes {
     }
 }
 
-/// The route, where the method is its own.
+/// The route or the other one of its path, by the method.
 fn if_method(method: &Method, route: Route) -> Option<Route>
     ensures { result ≡ if_method method.now (Some route) }
+{
+    if method.as_str() == route.method() {
+        Some(route)
+    } else {
+        if_its_method(method, route.beside())
+    }
+}
+
+/// The route, where the method is its own.
+fn if_its_method(method: &Method, route: Route) -> Option<Route>
+    ensures { result ≡ if_its_method method.now route }
 {
     if method.as_str() == route.method() {
         Some(route)

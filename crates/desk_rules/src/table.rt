@@ -4,6 +4,7 @@ ghost use Rattle.std.specs.HashMap.{get};
 ghost use Rattle.news_types.specs.Names.{same};
 ghost use Rattle.news_types.specs.History.{History};
 ghost use Rattle.news_types.specs.Answers.{allowed};
+ghost use Rattle.news_types.specs.Desks.{is_desk};
 ghost use Rattle.news_types.specs.Denial.{absent_in_place};
 ghost use Rattle.news_types.specs.Items as items;
 ghost use Rattle.news_types.specs.Publications as published;
@@ -59,6 +60,13 @@ impl Desks {
             (Some(_), None) => true,
             (None, _) => false,
         }
+    }
+
+    /// Whether the desk is there. It takes no memory.
+    pub fn is_desk(&self, desk: &Name) -> bool
+        ensures { (h : History) → KeepsFacts self.now h → result ≡ is_desk h desk.now }
+    {
+        self.has_desk(desk)
     }
 
     /// What of the place is not there: the desk, or else the stage. It takes no memory.

@@ -17,16 +17,19 @@ use Rattle.news_room.specs.Steps.{tick_entries, entries}
 use Rattle.package_rules.specs.Composed.{Composed}
 use Rattle.package_rules.specs.Readers.{readers}
 use Rattle.package_rules.specs.Publishing.{flash_of}
+use Rattle.desk_views.specs.declared.question.DeskQuestion.{DeskQuestion}
+use Rattle.server_metrics.specs.Metrics.{metrics}
 use Rattle.desk_lines.specs.declared.lines.Described.{Described}
 use Rattle.desk_routes.specs.declared.ask.HttpAsk.TheVariants as ask
 use Rattle.desk_routes.specs.declared.ask.Asking.{Asking}
+use Rattle.desk_routes.specs.declared.ask.HttpAsked.TheVariants.{By, Metrics}
 use Rattle.desk_routes.specs.declared.ask.Refusal.{Refusal}
 use Rattle.desk_routes.specs.declared.response.Response.{Response}
 use Rattle.desk_routes.specs.declared.response.Notice.TheVariants as notice
 use Rattle.desk_routes.specs.Rights.{right_of, may_ask}
-use Rattle.desk_routes.specs.Responses.{answered_response, answer_response, refusal_response, notice_response}
+use Rattle.desk_routes.specs.Responses.{answered_response, answer_response, refusal_response, metrics_response, notice_response}
 use Rattle.http_wire.specs.declared.request.HttpRequest.{HttpRequest}
-use Rattle.feed_http.specs.Outcome.{HttpOutcome, search_response, contents_response, no_readers_response, package_of, flash_outcome, package_outcome, with_tick, told_behind, ask_outcome, asking_outcome, read_outcome, unasked, asks, http}
+use Rattle.feed_http.specs.Outcome.{HttpOutcome, Seen, search_response, contents_response, question_response, no_readers_response, package_of, flash_outcome, package_outcome, with_tick, told_behind, ask_outcome, asking_outcome, read_outcome, unasked, asks, http}
 
 abbrev pub replied : Outcome outcome.Answered → HttpOutcome
 replied o = record { response = answered_response o.answer; adds = entries o.more }
@@ -66,6 +69,10 @@ pub holds : (store : Bytes) (h : History) (publication m : ℕ) → ask_outcome 
 unfolding ask_outcome
 holds store h publication m = refl
 
+pub questions : (store : Bytes) (h : History) (question : DeskQuestion) (m : ℕ) → ask_outcome store h (ask.Desk question) m ≡ told_behind h m (question_response question)
+unfolding ask_outcome
+questions store h question m = refl
+
 pub packages : (store : Bytes) (h : History) (caller : Bytes) (number : ℕ) (described : Described) (m : ℕ) → ask_outcome store h (ask.Package caller number described) m ≡ with_tick h m (package_outcome (the_writer store) (ticked h m) m caller number (package_of described))
 unfolding ask_outcome
 packages store h caller number described m = refl
@@ -90,14 +97,18 @@ pub judged : (store : Bytes) (h : History) (a : Asking) (m : ℕ) → asking_out
 unfolding asking_outcome
 judged store h a m = refl
 
-pub read_ok : (store : Bytes) (h : History) (a : Asking) (m : ℕ) → read_outcome store h (Ok a) m ≡ asking_outcome store h a m
+pub read_by : (store : Bytes) (h : History) (a : Asking) (reading : ℕ) (seen : Seen) → read_outcome store h (Ok (By a)) reading seen ≡ asking_outcome store h a (moment_at h reading)
 unfolding read_outcome
-read_ok store h a m = refl
+read_by store h a reading seen = refl
 
-pub read_err : (store : Bytes) (h : History) (refusal : Refusal) (m : ℕ) → read_outcome store h (Err refusal) m ≡ unasked (refusal_response refusal)
+pub read_metrics : (store : Bytes) (h : History) (reading : ℕ) (seen : Seen) → read_outcome store h (Ok Metrics) reading seen ≡ unasked (metrics_response (metrics h reading seen.size seen.counts))
 unfolding read_outcome
-read_err store h refusal m = refl
+read_metrics store h reading seen = refl
 
-pub http_is : (store : Bytes) (h : History) (request : HttpRequest) (reading : ℕ) → http store h request reading ≡ read_outcome store h (asks request) (moment_at h reading)
+pub read_err : (store : Bytes) (h : History) (refusal : Refusal) (reading : ℕ) (seen : Seen) → read_outcome store h (Err refusal) reading seen ≡ unasked (refusal_response refusal)
+unfolding read_outcome
+read_err store h refusal reading seen = refl
+
+pub http_is : (store : Bytes) (h : History) (request : HttpRequest) (reading : ℕ) (seen : Seen) → http store h request reading seen ≡ read_outcome store h (asks request) reading seen
 unfolding http
-http_is store h request reading = refl
+http_is store h request reading seen = refl

@@ -1,15 +1,15 @@
 -- What a request asks is what it is read as.
-use Rattle.std.proofs.Common.{◌≡◌, Ok, Err}
-use Rattle.desk_routes.specs.declared.ask.Asking.{Asking}
+use Rattle.std.proofs.Common.{◌≡◌, Ok, Err, subst}
+use Rattle.desk_routes.specs.declared.ask.HttpAsked.{HttpAsked}
 use Rattle.desk_routes.specs.declared.ask.Refusal.{Refusal}
-use Rattle.desk_routes.specs.Asking.{asking, IsSaid}
+use Rattle.desk_routes.specs.Asking.{asked, IsSaid}
 use Rattle.http_wire.specs.declared.request.HttpRequest.{HttpRequest}
 use Rattle.feed_http.specs.Outcome.{asks}
 
-pub read_as : (request : HttpRequest) (a : Asking) → asking request ≡ Ok a → asks request ≡ Ok a
+pub read_as : (request : HttpRequest) (read is : HttpAsked) → asked request ≡ Ok read → read ≡ is → asks request ≡ Ok is
 unfolding asks
-read_as request a is = is
+read_as request read is said same = subst (λ (x : HttpAsked). asked request ≡ Ok x) same said
 
-pub read_not : (request : HttpRequest) (refusal : Refusal) → IsSaid (asking request) (Err refusal) → IsSaid (asks request) (Err refusal)
+pub read_not : (request : HttpRequest) (refusal : Refusal) → IsSaid (asked request) (Err refusal) → IsSaid (asks request) (Err refusal)
 unfolding asks
 read_not request refusal said = said

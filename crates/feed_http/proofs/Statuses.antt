@@ -21,7 +21,7 @@ use Rattle.news_types.specs.declared.story.Incoming.{Incoming}
 use Rattle.desk_lines.specs.declared.asked.Asked.{Asked}
 use Rattle.desk_lines.specs.declared.property.LineProperty.{LineProperty}
 use Rattle.desk_lines.specs.declared.lines.PackageRequest.{PackageRequest}
-use Rattle.desk_lines.specs.Lines.{request_body, receipt_body, archive_body, package_body}
+use Rattle.desk_lines.specs.Lines.{request_body, receipt_body, archive_body, package_body, reach_body}
 use Rattle.archive_search.specs.declared.told.Told as archive
 use Rattle.archive_search.specs.declared.told.Told.TheVariants.{Found, Refused}
 use Rattle.archive_search.specs.Told.{archive_told}
@@ -36,14 +36,17 @@ use Rattle.desk_routes.specs.declared.route.Route.{Route}
 use Rattle.desk_routes.specs.declared.route.Route.TheVariants as the
 use Rattle.desk_routes.specs.declared.ask.HttpAsk.{HttpAsk}
 use Rattle.desk_routes.specs.declared.ask.HttpAsk.TheVariants as ask
-use Rattle.desk_routes.specs.declared.ask.Asking.{Asking}
+use Rattle.desk_routes.specs.declared.ask.HttpAsked.{HttpAsked}
+use Rattle.desk_routes.specs.declared.ask.HttpAsked.TheVariants.{By, Metrics}
 use Rattle.desk_routes.specs.declared.ask.Refusal.{Refusal}
 use Rattle.desk_routes.specs.declared.ask.Refusal.TheVariants.{NoRoute, NoCaller, BadPath, BadBody, BadItem, Memory}
 use Rattle.desk_routes.specs.declared.response.Response.{Response}
-use Rattle.desk_routes.specs.Asking.{◌>>=◌, or_refused, name_at, number_at, from_line, from_item, from_package, ask_by}
+use Rattle.desk_routes.specs.Asking.{◌>>=◌, or_refused, name_at, number_at, from_line, from_item, from_package, from_targets, ask_by, asking, asked_by}
 use Rattle.desk_routes.specs.Rights.{right_of, may_ask}
 use Rattle.desk_routes.specs.Responses.{denial_status, answered_response, answer_response, refusal_response}
-use Rattle.feed_http.specs.Outcome.{HttpOutcome, archive_response, package_of, flash_outcome, package_outcome, ask_outcome, asking_outcome, read_outcome, asks, http}
+use Rattle.desk_questions.specs.declared.answer.DeskTold as desk
+use Rattle.desk_questions.specs.Told.{desk_told}
+use Rattle.feed_http.specs.Outcome.{HttpOutcome, Seen, archive_response, desk_response, package_of, flash_outcome, package_outcome, ask_outcome, asking_outcome, read_outcome, asks, http}
 use Rattle.feed_http.specs.Turn.{Comes, whole, full, failed, starved}
 use Rattle.feed_http.specs.Laws.{is_given, is_package, reads_package, asks_package, IsBefore, IsToldBy}
 
@@ -79,6 +82,10 @@ package_none : (caller : Bytes) (read : Result PackageRequest LineProperty) → 
 package_none caller (Ok request) = tt
 package_none caller (Err property) = tt
 
+targets_none : (item : ℕ) (read : Result (List Bytes) LineProperty) → NoMemory (from_targets item read)
+targets_none item (Ok targets) = tt
+targets_none item (Err property) = tt
+
 ask_none : (route : Route) (caller path body : Bytes) → NoMemory (ask_by route caller path body)
 ask_none the.Requests caller path body = line_none (request_body caller body)
 ask_none the.Item caller path body = then_none (number_at 2 path) _ (path_none _) (λ item. tt)
@@ -90,6 +97,12 @@ ask_none the.Ingest caller path body = then_none (name_at 2 path) _ (path_none _
 ask_none the.Archive caller path body = line_none (archive_body body)
 ask_none the.Packages caller path body = package_none caller (package_body body)
 ask_none the.Contents caller path body = then_none (number_at 2 path) _ (path_none _) (λ publication. tt)
+ask_none the.ItemsBelow caller path body = then_none (number_at 3 path) _ (path_none _) (λ below. tt)
+ask_none the.DeskItemsBelow caller path body = then_none (name_at 2 path) _ (path_none _) (λ name. then_none (number_at 5 path) _ (path_none _) (λ below. tt))
+ask_none the.Reach caller path body = then_none (number_at 2 path) _ (path_none _) (λ item. tt)
+ask_none the.ReachOfTargets caller path body = then_none (number_at 2 path) _ (path_none _) (λ item. targets_none item (reach_body body))
+ask_none the.Publication caller path body = then_none (number_at 2 path) _ (path_none _) (λ number. tt)
+ask_none the.Metrics caller path body = tt
 
 route_none : (found : Option Route) → NoMemory (or_refused NoRoute found)
 route_none None = tt
@@ -99,9 +112,16 @@ caller_none : (found : Option Bytes) → NoMemory (or_refused NoCaller found)
 caller_none None = tt
 caller_none (Some name) = tt
 
+asking_none : (route : Route) (r : HttpRequest) → NoMemory (asking route r)
+asking_none route r = then_none (or_refused NoCaller r.user) _ (caller_none r.user) (λ caller. then_none (ask_by route caller r.target r.body) _ (ask_none route caller r.target r.body) (λ asked. tt))
+
+asked_none : (route : Route) (r : HttpRequest) → NoMemory (asked_by route r)
+asked_none the.Metrics r = tt
+asked_none route r = then_none (asking route r) _ (asking_none route r) (λ a. tt)
+
 read_none : (r : HttpRequest) → NoMemory (asks r)
 unfolding asks
-read_none r = then_none (or_refused NoRoute _) _ (route_none _) (λ route. then_none (or_refused NoCaller r.user) _ (caller_none r.user) (λ caller. then_none (ask_by route caller r.target r.body) _ (ask_none route caller r.target r.body) (λ asked. tt)))
+read_none r = then_none (or_refused NoRoute _) _ (route_none _) (λ route. asked_none route r)
 
 -- ---- statuses
 
@@ -124,9 +144,10 @@ told_given : (t : Told) → HasStatus (answer_response t)
 told_given (told.Frame bytes) = refl
 told_given (told.NoFrame length) = refl
 told_given (told.Unknown thing) = refl
+told_given (told.NoPublication count) = refl
 told_given _ = refl
 
-refusal_given : (refusal : Refusal) → NoMemory {A = Asking} (Err refusal) → HasStatus (refusal_response refusal)
+refusal_given : (refusal : Refusal) → NoMemory {A = HttpAsked} (Err refusal) → HasStatus (refusal_response refusal)
 refusal_given NoRoute none = refl
 refusal_given NoCaller none = refl
 refusal_given BadPath none = refl
@@ -137,6 +158,10 @@ refusal_given Memory none = absurd none
 found_given : (t : archive.Told) → HasStatus (archive_response t)
 found_given (Found bytes) = refl
 found_given (Refused bytes) = refl
+
+desk_given : (t : desk.DeskTold) → HasStatus (desk_response t)
+desk_given (desk.DeskTold.Found bytes) = refl
+desk_given (desk.DeskTold.Unknown thing) = refl
 
 flash_given : (write : Writer) (g : History) (m : ℕ) (caller : Bytes) (number : ℕ) (p : Composed) (to : List Bytes) → HasStatus (flash_outcome write g m caller number p to).response
 flash_given write g m caller number p [] = refl
@@ -152,19 +177,21 @@ ask_given store h (ask.Archive page query) m = found_given (archive_told (ticked
 ask_given store h (ask.Package caller number described) m =
     flash_given (the_writer store) (ticked h m) m caller number (package_of described) (readers (ticked h m) (package_of described).members)
 ask_given store h (ask.Contents publication) m = refl
+ask_given store h (ask.Desk question) m = desk_given (desk_told (ticked h m) question)
 
 either_given : (b : Bool) (o p : HttpOutcome) → HasStatus o.response → HasStatus p.response → HasStatus (cond b o p).response
 either_given true o p one other = one
 either_given false o p one other = other
 
-read_given : (store : Bytes) (h : History) (read : Result Asking Refusal) (m : ℕ) → NoMemory read → HasStatus (read_outcome store h read m).response
+read_given : (store : Bytes) (h : History) (read : Result HttpAsked Refusal) (reading : ℕ) (seen : Seen) → NoMemory read → HasStatus (read_outcome store h read reading seen).response
 unfolding read_outcome asking_outcome
-read_given store h (Ok a) m none = either_given (may_ask h a.caller (right_of a.ask)) _ _ (ask_given store h a.ask m) refl
-read_given store h (Err refusal) m none = refusal_given refusal none
+read_given store h (Ok (By a)) reading seen none = either_given (may_ask h a.caller (right_of a.ask)) _ _ (ask_given store h a.ask (moment_at h reading)) refl
+read_given store h (Ok Metrics) reading seen none = refl
+read_given store h (Err refusal) reading seen none = refusal_given refusal none
 
-pub outcome_given : (store : Bytes) (h : History) (request : HttpRequest) (reading : ℕ) → HasStatus (http store h request reading).response
+pub outcome_given : (store : Bytes) (h : History) (request : HttpRequest) (reading : ℕ) (seen : Seen) → HasStatus (http store h request reading seen).response
 unfolding http
-outcome_given store h request reading = read_given store h (asks request) (moment_at h reading) (read_none request)
+outcome_given store h request reading seen = read_given store h (asks request) reading seen (read_none request)
 
 -- ---- at most one entry follows, or of a package two: the first is its tick's
 
@@ -199,15 +226,17 @@ ask_few store h (ask.Archive page query) m = entries_few false _
 ask_few store h (ask.Package caller number described) m =
     flash_few (the_writer store) (some_waits h m) (ticked h m) m caller number (package_of described) (readers (ticked h m) (package_of described).members)
 ask_few store h (ask.Contents publication) m = entries_few false _
+ask_few store h (ask.Desk question) m = entries_few false _
 
 either_few : (package_asked b : Bool) (o p : HttpOutcome) → HasFew package_asked o.adds → HasFew package_asked p.adds → HasFew package_asked (cond b o p).adds
 either_few package_asked true o p one other = one
 either_few package_asked false o p one other = other
 
-read_few : (store : Bytes) (h : History) (read : Result Asking Refusal) (m : ℕ) → HasFew (reads_package read) (read_outcome store h read m).adds
+read_few : (store : Bytes) (h : History) (read : Result HttpAsked Refusal) (reading : ℕ) (seen : Seen) → HasFew (reads_package read) (read_outcome store h read reading seen).adds
 unfolding read_outcome asking_outcome
-read_few store h (Ok a) m = either_few (is_package a.ask) (may_ask h a.caller (right_of a.ask)) _ _ (ask_few store h a.ask m) tt
-read_few store h (Err refusal) m = tt
+read_few store h (Ok (By a)) reading seen = either_few (is_package a.ask) (may_ask h a.caller (right_of a.ask)) _ _ (ask_few store h a.ask (moment_at h reading)) tt
+read_few store h (Ok Metrics) reading seen = tt
+read_few store h (Err refusal) reading seen = tt
 
 -- before the last of them
 before_one : (b : Bool) (more : List Entry) (next : Entry) (rest : List Entry) → HasFew b (more ++ next ∷ rest) → IsBefore b more
@@ -271,9 +300,10 @@ tells b n o more response status few (starved rest is first given) =
       each = inr (inr s);
     }
 
-http_few : (store : Bytes) (h : History) (request : HttpRequest) (reading : ℕ) → HasFew (asks_package request) (http store h request reading).adds
+http_few : (store : Bytes) (h : History) (request : HttpRequest) (reading : ℕ) (seen : Seen) → HasFew (asks_package request) (http store h request reading seen).adds
 unfolding http
-http_few store h request reading = read_few store h (asks request) (moment_at h reading)
+http_few store h request reading seen = read_few store h (asks request) reading seen
 
-pub statuses_tell : (n : Beside) (store : Bytes) (h : History) (request : HttpRequest) (reading : ℕ) (more : List Entry) (response : Response) → Comes n (http store h request reading) more response → IsToldBy (asks_package request) n (http store h request reading) more response
-statuses_tell n store h request reading more response came = tells (asks_package request) n (http store h request reading) more response (outcome_given store h request reading) (http_few store h request reading) came
+pub statuses_tell : (n : Beside) (store : Bytes) (h : History) (request : HttpRequest) (reading : ℕ) (seen : Seen) (more : List Entry) (response : Response) → Comes n (http store h request reading seen) more response
+    → IsToldBy (asks_package request) n (http store h request reading seen) more response
+statuses_tell n store h request reading seen more response came = tells (asks_package request) n (http store h request reading seen) more response (outcome_given store h request reading seen) (http_few store h request reading seen) came

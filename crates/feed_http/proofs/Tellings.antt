@@ -1,4 +1,4 @@
--- A turn that tells of the list behind a tick: a search of the archive, or what a publication holds.
+-- A turn that tells of the list behind a tick: a search of the archive, what a publication holds, or what a desk asks.
 use Rattle.std.proofs.Common.{◌≡◌, inl, inr, ℕ, Bool, true, false, List, Ok, Err, refl, sym, ap, ◌∙◌, subst}
 use Rattle.std.proofs.lemmas.Bool.{false≢true}
 use Rattle.std.specs.Prelude.{Result, IfOk}
@@ -19,13 +19,14 @@ use Rattle.news_room.specs.declared.room.Room.{Room}
 use Rattle.news_room.proofs.Limits.{tick_limit}
 use Rattle.archive_search.specs.declared.told.Told as archive
 use Rattle.archive_search.specs.Told.{archive_told}
+use Rattle.desk_views.specs.declared.question.DeskQuestion.{DeskQuestion}
 use Rattle.desk_routes.specs.declared.response.Response.{Response}
 use Rattle.desk_routes.specs.declared.response.Notice.TheVariants as notice
 use Rattle.desk_routes.specs.declared.ask.HttpAsk.TheVariants as ask
 use Rattle.desk_routes.specs.Responses.{notice_response}
-use Rattle.feed_http.specs.Outcome.{HttpOutcome, archive_response, search_response, contents_response, told_behind}
+use Rattle.feed_http.specs.Outcome.{HttpOutcome, archive_response, search_response, contents_response, question_response, told_behind}
 use Rattle.feed_http.specs.Turn.{IsToldAs, IsFound, Comes, whole, full, failed, tells_failure, TellsBehind, TicksAndTells, HttpTurn, AskTurn}
-use Rattle.feed_http.proofs.Outcomes.{searches, holds}
+use Rattle.feed_http.proofs.Outcomes.{searches, holds, questions}
 use Rattle.feed_http.proofs.Coming.{all_kept}
 use Rattle.feed_http.proofs.Questions.{IsKeptOrStill, is_passed, passed_on, tick_given, never_fails, behind_tick}
 use Rattle.feed_http.proofs.Doubts.{told_any, told_by}
@@ -119,24 +120,34 @@ module _ {K : Type 0} (keeper : KeeperMeaning K) (old new : Room K) (b : Book) (
       → AskTurn keeper old new b more (ask.Archive page query) now response
   search_refused size count h is = as_searched (refused_turn keeper old new b more (search_response page query) now response size count h is)
 
--- ---- what a publication holds
+-- ---- what a room tells of its list by itself
 
-module _ {K : Type 0} (keeper : KeeperMeaning K) (old new : Room K) (b : Book) (more : List Entry) (publication now : ℕ) (response : Response) where
+module _ {K : Type 0} (keeper : KeeperMeaning K) (old new : Room K) (b : Book) (more : List Entry) (tell : Bytes → History → Response) (now : ℕ) (response : Response) where
   -- the response of a room, for each book for which it stands
   abbrev pub Held : Response → Type 0
-  Held held = (c : Book) → Stands keeper new c → held ≡ contents_response c.store publication c.list
+  Held held = (c : Book) → Stands keeper new c → held ≡ tell c.store c.list
 
-  held_behind : (held : Result Response NoMemory) → Stands keeper new (onto more b) → IfOk held Held → IfOk held (λ r. r ≡ contents_response b.store publication (followed_by more b.list))
+  held_behind : (held : Result Response NoMemory) → Stands keeper new (onto more b) → IfOk held Held → IfOk held (λ r. r ≡ tell b.store (followed_by more b.list))
   held_behind (Ok r) stands is = is (onto more b) stands
   held_behind (Err why) stands is = tt
 
+  held_turn : (t : tick.Ticked) (held : Result Response NoMemory) → IsKeptOrStill t → Happens keeper old new b more Ticked now (said_tick t) (TickStep (numbers keeper old new) b now more t) → IfOk held Held
+      → ((r : Response) → IfOk held (λ h. h ≡ r) → IsToldAs r response) → HttpTurn keeper old new b more (told_behind b.list (moment_at b.list now) (tell b.store)) response (TicksAndTells keeper old new b more (tell b.store) now response)
+  held_turn t held is h answers heard = told_turn keeper old new b more (tell b.store) now response t is h (heard (tell b.store (followed_by more b.list)) (held_behind held h.stands answers))
+
+-- ---- what a publication holds
+
+abbrev told_contents : ℕ → Bytes → History → Response
+told_contents publication store h = contents_response store publication h
+
+module _ {K : Type 0} (keeper : KeeperMeaning K) (old new : Room K) (b : Book) (more : List Entry) (publication now : ℕ) (response : Response) where
   -- the outcome, said by its own words
   as_held : HttpTurn keeper old new b more (told_behind b.list (moment_at b.list now) (contents_response b.store publication)) response (TicksAndTells keeper old new b more (contents_response b.store publication) now response) → AskTurn keeper old new b more (ask.Contents publication) now response
   as_held t = subst (λ (o : HttpOutcome). HttpTurn keeper old new b more o response (TicksAndTells keeper old new b more (contents_response b.store publication) now response)) (sym (holds b.store b.list publication (moment_at b.list now))) t
 
-  pub contents_turn : (t : tick.Ticked) (held : Result Response NoMemory) → IsKeptOrStill t → Happens keeper old new b more Ticked now (said_tick t) (TickStep (numbers keeper old new) b now more t) → IfOk held Held
+  pub contents_turn : (t : tick.Ticked) (held : Result Response NoMemory) → IsKeptOrStill t → Happens keeper old new b more Ticked now (said_tick t) (TickStep (numbers keeper old new) b now more t) → IfOk held (Held keeper old new b more (told_contents publication) now response)
       → ((r : Response) → IfOk held (λ h. h ≡ r) → IsToldAs r response) → AskTurn keeper old new b more (ask.Contents publication) now response
-  contents_turn t held is h answers heard = as_held (told_turn keeper old new b more (contents_response b.store publication) now response t is h (heard (contents_response b.store publication (followed_by more b.list)) (held_behind held h.stands answers)))
+  contents_turn t held is h answers heard = as_held (held_turn keeper old new b more (told_contents publication) now response t held is h answers heard)
 
   pub contents_failed : Happens keeper old new b more Ticked now Fault (TickStep (numbers keeper old new) b now more tick.Ticked.Fault) → response ≡ notice_response notice.Fault → AskTurn keeper old new b more (ask.Contents publication) now response
   contents_failed h is = as_held (failed_turn keeper old new b more (contents_response b.store publication) now response h is)
@@ -144,3 +155,24 @@ module _ {K : Type 0} (keeper : KeeperMeaning K) (old new : Room K) (b : Book) (
   pub contents_refused : (size count : ℕ) → Happens keeper old new b more Ticked now Full (TickStep (numbers keeper old new) b now more (tick.Ticked.Full size count)) → response ≡ notice_response notice.Full
       → AskTurn keeper old new b more (ask.Contents publication) now response
   contents_refused size count h is = as_held (refused_turn keeper old new b more (contents_response b.store publication) now response size count h is)
+
+-- ---- what a desk asks
+
+abbrev told_desk : DeskQuestion → Bytes → History → Response
+told_desk question store h = question_response question h
+
+module _ {K : Type 0} (keeper : KeeperMeaning K) (old new : Room K) (b : Book) (more : List Entry) (question : DeskQuestion) (now : ℕ) (response : Response) where
+  -- the outcome, said by its own words
+  as_questioned : HttpTurn keeper old new b more (told_behind b.list (moment_at b.list now) (question_response question)) response (TicksAndTells keeper old new b more (question_response question) now response) → AskTurn keeper old new b more (ask.Desk question) now response
+  as_questioned t = subst (λ (o : HttpOutcome). HttpTurn keeper old new b more o response (TicksAndTells keeper old new b more (question_response question) now response)) (sym (questions b.store b.list question (moment_at b.list now))) t
+
+  pub desk_turn : (t : tick.Ticked) (held : Result Response NoMemory) → IsKeptOrStill t → Happens keeper old new b more Ticked now (said_tick t) (TickStep (numbers keeper old new) b now more t) → IfOk held (Held keeper old new b more (told_desk question) now response)
+      → ((r : Response) → IfOk held (λ h. h ≡ r) → IsToldAs r response) → AskTurn keeper old new b more (ask.Desk question) now response
+  desk_turn t held is h answers heard = as_questioned (held_turn keeper old new b more (told_desk question) now response t held is h answers heard)
+
+  pub desk_failed : Happens keeper old new b more Ticked now Fault (TickStep (numbers keeper old new) b now more tick.Ticked.Fault) → response ≡ notice_response notice.Fault → AskTurn keeper old new b more (ask.Desk question) now response
+  desk_failed h is = as_questioned (failed_turn keeper old new b more (question_response question) now response h is)
+
+  pub desk_refused : (size count : ℕ) → Happens keeper old new b more Ticked now Full (TickStep (numbers keeper old new) b now more (tick.Ticked.Full size count)) → response ≡ notice_response notice.Full
+      → AskTurn keeper old new b more (ask.Desk question) now response
+  desk_refused size count h is = as_questioned (refused_turn keeper old new b more (question_response question) now response size count h is)

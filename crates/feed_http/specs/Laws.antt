@@ -10,10 +10,11 @@ use Rattle.news_room.specs.Steps.{Given, Refused, Failed}
 use Rattle.http_wire.specs.declared.request.HttpRequest.{HttpRequest}
 use Rattle.desk_routes.specs.declared.ask.HttpAsk.{HttpAsk}
 use Rattle.desk_routes.specs.declared.ask.HttpAsk.TheVariants.{Package}
-use Rattle.desk_routes.specs.declared.ask.Asking.{Asking}
+use Rattle.desk_routes.specs.declared.ask.HttpAsked.{HttpAsked}
+use Rattle.desk_routes.specs.declared.ask.HttpAsked.TheVariants.{By, Metrics}
 use Rattle.desk_routes.specs.declared.ask.Refusal.{Refusal}
 use Rattle.desk_routes.specs.declared.response.Response.{Response}
-use Rattle.feed_http.specs.Outcome.{HttpOutcome, asks, http}
+use Rattle.feed_http.specs.Outcome.{HttpOutcome, Seen, asks, http}
 use Rattle.feed_http.specs.Turn.{Comes}
 
 -- the statuses of what the list answers
@@ -22,7 +23,7 @@ is_given status = status == 200 || status == 400 || status == 403 || status == 4
 
 -- an outcome has one of these
 abbrev pub OutcomesAreGiven : Type 0
-OutcomesAreGiven = (store : Bytes) (h : History) (request : HttpRequest) (reading : ℕ) → IsTrue (is_given (http store h request reading).response.status)
+OutcomesAreGiven = (store : Bytes) (h : History) (request : HttpRequest) (reading : ℕ) (seen : Seen) → IsTrue (is_given (http store h request reading seen).response.status)
 
 -- ---- packages, of which two entries follow: the tick's and the flash
 
@@ -30,8 +31,9 @@ abbrev pub is_package : HttpAsk → Bool
 is_package (Package caller number described) = true
 is_package _ = false
 
-abbrev pub reads_package : Result Asking Refusal → Bool
-reads_package (Ok a) = is_package a.ask
+abbrev pub reads_package : Result HttpAsked Refusal → Bool
+reads_package (Ok (By a)) = is_package a.ask
+reads_package (Ok Metrics) = false
 reads_package (Err refusal) = false
 
 -- the request asks for a package
@@ -74,4 +76,5 @@ pub record IsToldBy (package_asked : Bool) (n : Beside) (o : HttpOutcome) (more 
   pub each : (IsTrue (is_given response.status) ⊎ (response.status ≡ 508)) ⊎ ((response.status ≡ 503) ⊎ (response.status ≡ 507))
 
 abbrev pub StatusesTell : Type 0
-StatusesTell = (n : Beside) (store : Bytes) (h : History) (request : HttpRequest) (reading : ℕ) (more : List Entry) (response : Response) → Comes n (http store h request reading) more response → IsToldBy (asks_package request) n (http store h request reading) more response
+StatusesTell = (n : Beside) (store : Bytes) (h : History) (request : HttpRequest) (reading : ℕ) (seen : Seen) (more : List Entry) (response : Response)
+    → Comes n (http store h request reading seen) more response → IsToldBy (asks_package request) n (http store h request reading seen) more response

@@ -2,6 +2,7 @@
 use Rattle.std.specs.Prelude.{ℕ, nat_lt, List, [], ◌∷◌, ◌++◌, length, if◌then◌else◌, Option, Some, None, Result, Ok, Err}
 use Rattle.news_types.specs.declared.entry.Entry.{Entry}
 use Rattle.news_types.specs.declared.command.Command.TheVariants.{Flash}
+use Rattle.news_types.specs.declared.denial.Denial.TheVariants.{UnknownThing}
 use Rattle.news_types.specs.Names.{Bytes}
 use Rattle.news_types.specs.History.{History, moment_at}
 use Rattle.news_types.specs.Frames.{Writer}
@@ -14,22 +15,34 @@ use Rattle.archive_search.specs.Told.{archive_told}
 use Rattle.package_rules.specs.Composed.{Composed, composite}
 use Rattle.package_rules.specs.Readers.{readers}
 use Rattle.package_rules.specs.Report.{contents_object, no_readers_text}
+use Rattle.desk_views.specs.declared.question.DeskQuestion.{DeskQuestion}
+use Rattle.desk_questions.specs.declared.answer.DeskTold as desk
+use Rattle.desk_questions.specs.Told.{desk_told}
+use Rattle.server_counts.specs.Tally.{Tally}
+use Rattle.server_metrics.specs.Metrics.{metrics}
 use Rattle.desk_lines.specs.declared.lines.Described.{Described}
 use Rattle.http_wire.specs.declared.request.HttpRequest.{HttpRequest}
 use Rattle.desk_routes.specs.declared.ask.HttpAsk.{HttpAsk}
 use Rattle.desk_routes.specs.declared.ask.HttpAsk.TheVariants as ask
 use Rattle.desk_routes.specs.declared.ask.Asking.{Asking}
+use Rattle.desk_routes.specs.declared.ask.HttpAsked.{HttpAsked}
+use Rattle.desk_routes.specs.declared.ask.HttpAsked.TheVariants.{By, Metrics}
 use Rattle.desk_routes.specs.declared.ask.Refusal.{Refusal}
 use Rattle.desk_routes.specs.declared.response.Response.{Response}
 use Rattle.desk_routes.specs.declared.response.Notice.TheVariants as notice
-use Rattle.desk_routes.specs.Asking.{asking}
+use Rattle.desk_routes.specs.Asking.{asked}
 use Rattle.desk_routes.specs.Rights.{right_of, may_ask}
-use Rattle.desk_routes.specs.Responses.{bare, told_as, answered_response, answer_response, refusal_response, notice_response}
+use Rattle.desk_routes.specs.Responses.{bare, told_as, metrics_response, denial_response, answered_response, answer_response, refusal_response, notice_response}
 
 -- a response, and the entries that follow the list, oldest first
 pub record HttpOutcome : Type 0 where
   pub response : Response
   pub adds : List Entry
+
+-- what stands beside the list: the bytes that its log uses, and what was counted
+pub record Seen : Type 0 where
+  pub size : ℕ
+  pub counts : Tally
 
 -- ---- the table of statuses
 
@@ -55,6 +68,15 @@ search_response page query h = archive_response (archive_told h page query)
 -- what a publication holds, in the store of this identifier, at a list
 abbrev pub contents_response : Bytes → ℕ → History → Response
 contents_response store publication h = told_as 200 (contents_object h store publication)
+
+-- what a question of the desk is answered: 404 where a thing that it names is not there
+abbrev pub desk_response : desk.DeskTold → Response
+desk_response (desk.DeskTold.Found bytes) = told_as 200 bytes
+desk_response (desk.DeskTold.Unknown thing) = denial_response (UnknownThing thing)
+
+-- the same of this question, at a list
+abbrev pub question_response : DeskQuestion → History → Response
+question_response question h = desk_response (desk_told h question)
 
 -- a package of which nobody has every member, at a list of so many entries
 abbrev pub no_readers_response : ℕ → Response
@@ -95,7 +117,7 @@ with_tick h m o = record { response = o.response; adds = tick_entries h m ++ o.a
 abbrev pub told_behind : History → ℕ → (History → Response) → HttpOutcome
 told_behind h m tell = record { response = tell (ticked h m); adds = tick_entries h m }
 
--- A question, a search of the archive, what a publication holds and a package come behind a tick: they are answered at the list which
+-- A question, a search of the archive, what a publication holds, a question of the desk and a package come behind a tick: they are answered at the list which
 -- that leaves. Publications are written as those of this store are.
 
 unfoldable pub ask_outcome : Bytes → History → HttpAsk → ℕ → HttpOutcome
@@ -106,6 +128,7 @@ ask_outcome store h (ask.Ingest provider incoming) m = call_outcome (the_writer 
 ask_outcome store h (ask.Archive page query) m = told_behind h m (search_response page query)
 ask_outcome store h (ask.Package caller number described) m = with_tick h m (package_outcome (the_writer store) (ticked h m) m caller number (package_of described))
 ask_outcome store h (ask.Contents publication) m = told_behind h m (contents_response store publication)
+ask_outcome store h (ask.Desk question) m = told_behind h m (question_response question)
 
 -- ---- requests
 
@@ -113,17 +136,20 @@ ask_outcome store h (ask.Contents publication) m = told_behind h m (contents_res
 unfoldable pub asking_outcome : Bytes → History → Asking → ℕ → HttpOutcome
 asking_outcome store h a m = if may_ask h a.caller (right_of a.ask) then ask_outcome store h a.ask m else unasked (notice_response notice.Forbidden)
 
-unfoldable pub read_outcome : Bytes → History → Result Asking Refusal → ℕ → HttpOutcome
-read_outcome store h (Ok a) m = asking_outcome store h a m
-read_outcome store h (Err refusal) m = unasked (refusal_response refusal)
+-- the metrics are told of the list as it is, and keep nothing
+unfoldable pub read_outcome : Bytes → History → Result HttpAsked Refusal → ℕ → Seen → HttpOutcome
+read_outcome store h (Ok (By a)) reading seen = asking_outcome store h a (moment_at h reading)
+read_outcome store h (Ok Metrics) reading seen = unasked (metrics_response (metrics h reading seen.size seen.counts))
+read_outcome store h (Err refusal) reading seen = unasked (refusal_response refusal)
 
 -- what a request asks, or why it is refused before anything is asked
-unfoldable pub asks : HttpRequest → Result Asking Refusal
-asks request = asking request
+unfoldable pub asks : HttpRequest → Result HttpAsked Refusal
+asks request = asked request
 
--- the response to a request, in the store of this identifier, at a list and a reading of the clock, and the entries that follow
-unfoldable pub http : Bytes → History → HttpRequest → ℕ → HttpOutcome
-http store h request reading = read_outcome store h (asks request) (moment_at h reading)
+-- the response to a request, in the store of this identifier, at a list, a reading of the clock and what stands beside the list, and the
+-- entries that follow
+unfoldable pub http : Bytes → History → HttpRequest → ℕ → Seen → HttpOutcome
+http store h request reading seen = read_outcome store h (asks request) reading seen
 
 -- ---- what was kept
 

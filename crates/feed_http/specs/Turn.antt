@@ -17,15 +17,17 @@ use Rattle.http_wire.specs.declared.request.HttpRequest.{HttpRequest}
 use Rattle.desk_routes.specs.declared.ask.HttpAsk.{HttpAsk}
 use Rattle.desk_routes.specs.declared.ask.HttpAsk.TheVariants as ask
 use Rattle.desk_routes.specs.declared.ask.Asking.{Asking}
+use Rattle.desk_routes.specs.declared.ask.HttpAsked.TheVariants.{By}
 use Rattle.desk_routes.specs.declared.response.Response.{Response}
 use Rattle.desk_routes.specs.declared.response.Notice.TheVariants as notice
 use Rattle.desk_routes.specs.Responses.{reply_response, denial_response, notice_response}
 use Rattle.archive_search.specs.declared.told.Told as archive
+use Rattle.server_counts.specs.Tally.{Tally, nothing}
 use Rattle.package_rules.specs.declared.publish.Packaged.{Packaged}
 use Rattle.package_rules.specs.Composed.{Composed}
 use Rattle.package_rules.specs.Publishing.{flash_of}
 use Rattle.feed_http.specs.declared.answers.HttpAnswer.{HttpAnswer}
-use Rattle.feed_http.specs.Outcome.{HttpOutcome, archive_response, search_response, contents_response, no_readers_response, package_of, response_to, ask_outcome, asking_outcome, asks, http, stop_behind}
+use Rattle.feed_http.specs.Outcome.{HttpOutcome, Seen, archive_response, search_response, contents_response, question_response, no_readers_response, package_of, response_to, ask_outcome, asking_outcome, asks, http, stop_behind}
 
 -- ---- how much of an outcome came
 
@@ -68,7 +70,7 @@ tells_failure response = response.status == 503
 
 -- a request that is read as this
 pub record IsRead (request : HttpRequest) (a : Asking) : Type 0 where
-  pub is : asks request ≡ Ok a
+  pub is : asks request ≡ Ok (By a)
 
 -- what is told of a list behind a tick that was answered so: where the tick was refused nothing is told of it
 abbrev pub TellsBehind : (History → Response) → History → Answer → Response → Type 0
@@ -97,7 +99,7 @@ module _ {K : Type 0} (keeper : KeeperMeaning K) where
     pub event : IsEvent keeper old new b more Ticked now answer
     pub asks : AsksBehind new (onto more b) question now answer response
 
-  -- a tick, and then what is told of the list: a search of it, or what a publication holds
+  -- a tick, and then what is told of the list: a search of it, what a publication holds, or what a desk asks
   pub record TicksAndTells (old new : Room K) (b : Book) (more : List Entry) (tell : History → Response) (now : ℕ) (response : Response) : Type 0 where
     pub answer : Answer
     pub event : IsEvent keeper old new b more Ticked now answer
@@ -141,12 +143,13 @@ module _ {K : Type 0} (keeper : KeeperMeaning K) where
   AskEvents old new b more (ask.Archive page query) now response = TicksAndTells old new b more (search_response page query) now response
   AskEvents old new b more (ask.Package caller number described) now response = PackageEvents old new b more caller number (package_of described) now response
   AskEvents old new b more (ask.Contents publication) now response = TicksAndTells old new b more (contents_response b.store publication) now response
+  AskEvents old new b more (ask.Desk question) now response = TicksAndTells old new b more (question_response question) now response
 
   -- what a caller asks, or nothing was asked of the room
   abbrev pub AskingEvents : Room K → Room K → Book → List Entry → Asking → ℕ → Response → Type 0
   AskingEvents old new b more a now response = IsStill old new more ⊎ AskEvents old new b more a.ask now response
 
-  -- the events of what the request asks, or nothing was asked
+  -- the events of what the request asks, or nothing was asked, as by one for the metrics
   abbrev pub RequestEvents : Room K → Room K → Book → List Entry → HttpRequest → ℕ → Response → Type 0
   RequestEvents old new b more request now response = IsStill old new more ⊎ ((a : Asking) × IsRead request a × AskEvents old new b more a.ask now response)
 
@@ -169,16 +172,24 @@ module _ {K : Type 0} (keeper : KeeperMeaning K) where
   AskingTurn old new b more a now response =
       HttpTurn old new b more (asking_outcome b.store b.list a (moment_at b.list now)) response (AskingEvents old new b more a now response)
 
-  -- the turn of a request at a reading of the clock
-  abbrev pub RequestTurn : Room K → Room K → Book → List Entry → HttpRequest → ℕ → Response → Type 0
-  RequestTurn old new b more request now response =
-      HttpTurn old new b more (http b.store b.list request now) response (RequestEvents old new b more request now response)
+  -- what stands beside the list of a room, where this was counted
+  abbrev pub seen_by : Room K → Tally → Seen
+  seen_by room counts = record { size = keeper.used room.keeper; counts = counts }
+
+  -- the turn of a request at a reading of the clock, where this was counted before it
+  abbrev pub RequestTurn : Room K → Room K → Book → List Entry → HttpRequest → ℕ → Tally → Response → Type 0
+  RequestTurn old new b more request now counts response =
+      HttpTurn old new b more (http b.store b.list request now (seen_by old counts)) response (RequestEvents old new b more request now response)
 
   -- what a request is answered in its turn, and the stop that the turn kept
-  pub record IsAnswer (old new : Room K) (b : Book) (more : List Entry) (request : HttpRequest) (now : ℕ) (answer : HttpAnswer) : Type 0 where
-    pub turn : RequestTurn old new b more request now answer.response
+  pub record IsAnswer (old new : Room K) (b : Book) (more : List Entry) (request : HttpRequest) (now : ℕ) (counts : Tally) (answer : HttpAnswer) : Type 0 where
+    pub turn : RequestTurn old new b more request now counts answer.response
     pub stop : answer.stop ≡ stop_behind (last_stop b.list) (last_stop ((onto more b).list))
 
   -- the same for each book for which the room stood
-  abbrev pub IsAnswered : Room K → ℕ → HttpRequest → HttpAnswer → Room K → Type 0
-  IsAnswered old now request answer new = (more : List Entry) × ((b : Book) → Stands keeper old b → IsAnswer old new b more request now answer)
+  abbrev pub IsAnswered : Room K → ℕ → Tally → HttpRequest → HttpAnswer → Room K → Type 0
+  IsAnswered old now counts request answer new = (more : List Entry) × ((b : Book) → Stands keeper old b → IsAnswer old new b more request now counts answer)
+
+  -- the same where nothing is ever counted
+  abbrev pub IsAnsweredUncounted : Room K → ℕ → HttpRequest → HttpAnswer → Room K → Type 0
+  IsAnsweredUncounted old now request answer new = IsAnswered old now nothing request answer new

@@ -1,6 +1,6 @@
-//! A room that nobody shares.
+//! A room that nobody shares, and for which nothing is counted.
 ghost use Rattle.news_room.specs.Stands.{SomeBook};
-ghost use Rattle.feed_http.specs.Turn.{IsAnswered};
+ghost use Rattle.feed_http.specs.Turn.{IsAnsweredUncounted};
 ghost use Rattle.feed_http.specs.Served.{Served, Causes};
 
 use crate::answers::{Answers, HttpAnswer};
@@ -11,17 +11,19 @@ use desk_routes::Routes;
 use http_wire::HttpRequest;
 use news_io::{Clock, Keeper, Sink, Source};
 use news_room::Room;
+use server_counts::Counts;
 
 impl<K: Keeper> Answers for Room<K> {
     ghost use Rattle.news_room.specs.Stands.{SomeBook};
-    ghost use Rattle.feed_http.specs.Turn.{IsAnswered};
+    ghost use Rattle.feed_http.specs.Turn.{IsAnsweredUncounted};
 
     ghost is_ready = { λ room. SomeBook K.keeper room };
 
-    ghost turn = { IsAnswered K.keeper };
+    ghost turn = { IsAnsweredUncounted K.keeper };
 
     fn answer(&mut self, routes: &Routes, now: u64, request: &HttpRequest) -> HttpAnswer {
-        answer_one(routes, self, now, request)
+        let counts = Counts::new(routes.alloc());
+        answer_one(routes, self, now, &counts, request)
     }
 }
 
@@ -38,7 +40,7 @@ pub fn serve_plain<K: Keeper, C: Clock, S: Source, O: Sink>(
     sink: &mut O,
 ) -> Ended
     requires { SomeBook K.keeper room.old }
-    ensures served { Served (IsAnswered K.keeper) C.clock S.source O.sink room.old room.new clock.old clock.new source.old source.new sink.old sink.new result }
+    ensures served { Served (IsAnsweredUncounted K.keeper) C.clock S.source O.sink room.old room.new clock.old clock.new source.old source.new sink.old sink.new result }
     ensures stands { SomeBook K.keeper room.new }
     ensures causes { Causes (S.source.faults source.old) (S.source.faults source.new) (O.sink.faults sink.old) (O.sink.faults sink.new) result }
 {

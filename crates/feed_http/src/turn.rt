@@ -9,8 +9,10 @@ ghost use Rattle.package_members.specs.Members.{make_package};
 ghost use Rattle.desk_routes.specs.declared.ask.HttpAsk.TheVariants as asked;
 ghost use Rattle.desk_routes.specs.Asking.{FitsAsk};
 ghost use Rattle.desk_routes.specs.Rights.{right_of, may_ask};
-ghost use Rattle.feed_http.specs.Outcome.{contents_response, package_of, stop_behind};
-ghost use Rattle.feed_http.specs.Turn.{AskTurn, AskingTurn, RequestTurn, IsAnswered};
+ghost use Rattle.desk_routes.specs.Responses.{metrics_response};
+ghost use Rattle.server_metrics.specs.Metrics.{metrics};
+ghost use Rattle.feed_http.specs.Outcome.{contents_response, package_of, question_response, stop_behind};
+ghost use Rattle.feed_http.specs.Turn.{AskTurn, AskingTurn, IsToldAs, RequestTurn, IsAnswered};
 
 use crate::answers::HttpAnswer;
 use crate::telling::{
@@ -18,15 +20,19 @@ use crate::telling::{
 };
 use archive_search::tell_archive;
 use desk_lines::Described;
+use desk_questions::{DeskTold, answer_desk};
 use desk_routes::{
-    Asking, Gate, HttpAsk, Notice, Response, Routes, allows, gate_of, notify, refuse, right_of,
-    told_as,
+    Asking, Gate, HttpAsk, HttpAsked, Notice, Response, Routes, allows, gate_of, notify, refuse,
+    respond_denial, right_of, told_as, told_metrics,
 };
+use desk_views::DeskQuestion;
 use http_wire::HttpRequest;
 use news_io::Keeper;
 use news_room::{Room, Ticked};
-use news_types::{Command, Incoming, Memory, Name, Query, Text};
+use news_types::{Command, Denial, Incoming, Memory, Name, Query, Text};
 use package_rules::{Package, contents_object, publish_package};
+use server_counts::Counts;
+use server_metrics::metrics_text;
 use std::alloc::Global;
 
 /// Releases what waits, and then answers a question.
@@ -149,6 +155,41 @@ fn answer_contents<K: Keeper>(
     }
 }
 
+/// The response that tells a desk what it asks of a room.
+fn respond_desk<K: Keeper>(
+    alloc: Global,
+    room: &Room<K>,
+    question: &DeskQuestion,
+) -> Result<Response, Memory>
+    requires { SomeBook K.keeper room.now }
+    ensures { IfOk result (λ response. (b : Book) → Stands K.keeper room.now b → response ≡ question_response question.now b.list) }
+{
+    match answer_desk(alloc, room, question)? {
+        DeskTold::Found(found) => Ok(told_as(200, found)),
+        DeskTold::Unknown(thing) => respond_denial(alloc, &Denial::UnknownThing { thing }),
+    }
+}
+
+/// Releases what waits, and then tells a desk what it asks.
+#[tactic(none)]
+fn answer_desk_question<K: Keeper>(
+    alloc: Global,
+    desks: &mut Room<K>,
+    now: u64,
+    question: &DeskQuestion,
+) -> Response
+    requires { SomeBook K.keeper desks.old }
+    ensures { (more : List Entry) × ((b : Book) → Stands K.keeper desks.old b → AskTurn K.keeper desks.old desks.new b more (asked.Desk question.now) now result) }
+{
+    match desks.tick(now) {
+        Ticked::Kept { .. } | Ticked::Still => {
+            or_no_memory(alloc, respond_desk(alloc, desks, question))
+        }
+        Ticked::Fault => notify(alloc, Notice::Fault),
+        Ticked::Full { .. } => notify(alloc, Notice::Full),
+    }
+}
+
 /// The package that is described.
 fn described_package(alloc: Global, described: Described) -> Result<Package, Memory>
     requires fits { FitsStory described.story }
@@ -210,6 +251,7 @@ fn answer_ask<K: Keeper>(alloc: Global, room: &mut Room<K>, now: u64, ask: HttpA
             described,
         } => answer_package(alloc, room, now, caller, number, described),
         HttpAsk::Contents { publication } => answer_contents(alloc, room, now, publication),
+        HttpAsk::Desk(question) => answer_desk_question(alloc, room, now, &question),
     }
 }
 
@@ -260,20 +302,44 @@ fn answer_asking<K: Keeper>(alloc: Global, room: &mut Room<K>, now: u64, asking:
     }
 }
 
-/// The response to a request.
+/// The response that tells the metrics of a room as it is, and what was counted.
+fn respond_metrics<K: Keeper>(
+    alloc: Global,
+    room: &Room<K>,
+    now: u64,
+    counts: &Counts,
+) -> Result<Response, Memory>
+    requires { SomeBook K.keeper room.now }
+    ensures { IfOk result (λ response. (b : Book) → Stands K.keeper room.now b → response ≡ metrics_response (metrics b.list now (K.keeper.used room.now.keeper) counts.now)) }
+{
+    Ok(told_metrics(metrics_text(alloc, room, now, counts)?))
+}
+
+/// Tells the metrics, without a tick.
+#[tactic(none)]
+fn answer_metrics<K: Keeper>(alloc: Global, room: &Room<K>, now: u64, counts: &Counts) -> Response
+    requires { SomeBook K.keeper room.now }
+    ensures { (b : Book) → Stands K.keeper room.now b → IsToldAs (metrics_response (metrics b.list now (K.keeper.used room.now.keeper) counts.now)) result }
+{
+    or_no_memory(alloc, respond_metrics(alloc, room, now, counts))
+}
+
+/// The response to a request, where this was counted before it.
 #[tactic(none)]
 fn answer_request<K: Keeper>(
     routes: &Routes,
     room: &mut Room<K>,
     now: u64,
+    counts: &Counts,
     request: &HttpRequest,
 ) -> Response
     requires { SomeBook K.keeper room.old }
-    ensures { (more : List Entry) × ((b : Book) → Stands K.keeper room.old b → RequestTurn K.keeper room.old room.new b more request.now now result) }
+    ensures { (more : List Entry) × ((b : Book) → Stands K.keeper room.old b → RequestTurn K.keeper room.old room.new b more request.now now counts.now result) }
 {
     let alloc = routes.alloc();
     match routes.read_ask(request) {
-        Ok(asking) => answer_asking(alloc, room, now, asking),
+        Ok(HttpAsked::By(asking)) => answer_asking(alloc, room, now, asking),
+        Ok(HttpAsked::Metrics) => answer_metrics(alloc, room, now, counts),
         Err(refusal) => or_no_memory(alloc, refuse(alloc, refusal)),
     }
 }
@@ -287,8 +353,9 @@ fn stop_behind(before: u64, now: u64) -> Option<u64>
 
 /// Answers a request in one turn of a room, at a reading of the clock, in seconds.
 ///
-/// What the request is refused for up to its caller's right is decided by the list as it is, and keeps nothing. A question, a
-/// search of the archive, what a publication holds and a package come behind a tick; where that is refused, so is what is asked.
+/// What the request is refused for up to its caller's right is decided by the list as it is, and keeps nothing. So are the metrics
+/// told, of the list, of the bytes that its log uses and of what was counted before. A question, a search of the archive, what a
+/// publication holds, a question of the desk and a package come behind a tick; where that is refused, so is what is asked.
 /// Where there is no memory the status is 507, without a body; then none or all of the entries are kept that the request has, or
 /// that of a package's tick.
 #[tactic(none)]
@@ -296,13 +363,14 @@ pub fn answer_one<K: Keeper>(
     routes: &Routes,
     room: &mut Room<K>,
     now: u64,
+    counts: &Counts,
     request: &HttpRequest,
 ) -> HttpAnswer
     requires { SomeBook K.keeper room.old }
-    ensures { IsAnswered K.keeper room.old now request.now result room.new }
+    ensures { IsAnswered K.keeper room.old now counts.now request.now result room.new }
 {
     let before = room.last_stop();
-    let response = answer_request(routes, room, now, request);
+    let response = answer_request(routes, room, now, counts, request);
     HttpAnswer {
         response,
         stop: stop_behind(before, room.last_stop()),

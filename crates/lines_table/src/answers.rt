@@ -4,7 +4,7 @@ use desk_answers::{answer_text, bad_text, fault_text, reply_text};
 use desk_lines::LineProperty;
 use news_types::{
     Answer, Bytes, FeedRow, FeedRows, FeedState, Holder, ItemRow, Kind, Media, Memory, Name, Place,
-    QueueRow, QueueRows, Reply, State, Story, Text, Thing,
+    Publication, QueueRow, QueueRows, Reply, State, Story, Text, Thing,
 };
 use std::alloc::Global;
 
@@ -58,6 +58,24 @@ pub(crate) fn check(alloc: Global) -> Result<Bytes, Memory> {
 /// That a thing is not there.
 pub(crate) fn unknown(alloc: Global) -> Result<Bytes, Memory> {
     answer_text(alloc, &Answer::Unknown { thing: Thing::Item })
+}
+
+/// A publication, which takes its item back.
+pub(crate) fn publication(alloc: Global) -> Result<Bytes, Memory> {
+    let answer = Answer::Publication(Publication {
+        number: 4,
+        item: 7,
+        version: 2,
+        kind: Kind::Kill,
+        story: story(alloc)?,
+        release: 1000,
+    });
+    answer_text(alloc, &answer)
+}
+
+/// That there is no such publication.
+pub(crate) fn no_publication(alloc: Global) -> Result<Bytes, Memory> {
+    answer_text(alloc, &Answer::NoPublication { count: 4 })
 }
 
 /// A feed of one entry.

@@ -4,13 +4,14 @@
 //! A line that is read is printed as the word of what it asks, behind its caller and number where it is a request. One that
 //! is not is printed as `bad` and its first bad property.
 //!
-//! Three words before an object have it read as what comes by itself: `archive` as a question on the archive, `package` as a
-//! package, and `numbered` as one with its number.
+//! Four words before an object have it read as what comes by itself: `archive` as a question on the archive, `package` as a
+//! package, `numbered` as one with its number, and `reach` as the targets that a publication would have.
 #![tactic(auto)]
 
 mod answers;
 mod denials;
 mod objects;
+mod questions;
 mod words;
 
 use denials::denials;
@@ -18,6 +19,7 @@ use desk_answers::denial_text;
 use desk_lines::{Asked, LineFault, read_archive_body, read_line, word_of_property};
 use news_types::{Bytes, Holder, Memory, Name, Place, Query};
 use objects::{print_numbered, print_package};
+use questions::{print_desk, print_targets};
 use std::io::{self, ErrorKind, Write};
 use words::word_of_command;
 
@@ -52,6 +54,9 @@ fn print_line<R: Print + AllocGlobal>(rt: &R, line: &str) -> io::Result<()> {
     if let Some(object) = line.strip_prefix("numbered ") {
         return print_numbered(rt, object);
     }
+    if let Some(object) = line.strip_prefix("reach ") {
+        return print_targets(rt, object);
+    }
     print_read(rt, read_line(rt.alloc(), line.as_bytes()))
 }
 
@@ -84,6 +89,7 @@ fn print_asked(rt: &impl Print, asked: &Asked) -> io::Result<()> {
         Asked::Query(query) => print_query(rt, query),
         Asked::Receipt { subscriber, n } => println!(rt; "receipt {} {n}", subscriber.as_str()),
         Asked::Archive { page, query } => println!(rt; "archive {page} [{}]", query.as_str()),
+        Asked::Desk(question) => print_desk(rt, question),
     }
 }
 
@@ -93,6 +99,7 @@ fn print_query(rt: &impl Print, query: &Query) -> io::Result<()> {
         Query::Item { item } => println!(rt; "item {item}"),
         Query::Queue => println!(rt; "queue"),
         Query::Check => println!(rt; "check"),
+        Query::Publication { number } => println!(rt; "publication {number}"),
         _ => println!(rt; "a question that no line asks"),
     }
 }
@@ -113,7 +120,9 @@ fn print_answers<R: Print + AllocGlobal>(rt: &R) -> io::Result<()> {
     print_text(rt, answers::wire_fault(rt.alloc()))?;
     print_text(rt, answers::item_fault(rt.alloc()))?;
     print_text(rt, answers::check(rt.alloc()))?;
-    print_text(rt, answers::unknown(rt.alloc()))
+    print_text(rt, answers::unknown(rt.alloc()))?;
+    print_text(rt, answers::publication(rt.alloc()))?;
+    print_text(rt, answers::no_publication(rt.alloc()))
 }
 
 /// Prints the answers that name something: a feed, the queue, an item.

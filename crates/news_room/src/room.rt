@@ -52,6 +52,7 @@ impl<K: Keeper> Room<K> {
     ghost use Rattle.newsroom.specs.Asking.{asks_frame};
     ghost use Rattle.newsroom.specs.Acts.{IsSmall};
     ghost use Rattle.newsroom.specs.Changes.{HasMemory, IsFor};
+    ghost use Rattle.newsroom.specs.Stands as machine;
     ghost use Rattle.news_room.specs.Appends.{AppendStep};
     ghost use Rattle.news_room.specs.Stands.{Stands, SomeBook, numbers};
     ghost use Rattle.news_room.specs.Said.{said, said_told};
@@ -206,6 +207,15 @@ impl<K: Keeper> Room<K> {
         ensures { (b : Book) → Stands K.keeper self.now b → result ≡ b.store }
     {
         self.machine.store()
+    }
+
+    /// The machine, to be read: nothing is copied.
+    pub fn newsroom(&self) -> &Newsroom
+        ensures stands_for { (b : Book) → Stands K.keeper self.now b → machine.StandsFor result.now b.list }
+        ensures store { (b : Book) → Stands K.keeper self.now b → machine.store_of result.now ≡ b.store }
+        ensures stands { SomeBook K.keeper self.now → machine.Stands result.now }
+    {
+        &self.machine
     }
 
     /// What is kept of the publication of that number, if it is there. Nothing is copied.

@@ -1,11 +1,13 @@
 //! The key that a server asks for.
 
+use error_lines::tell;
 use news_types::{Memory, Text};
 use run_status::Status;
 use std::alloc::Global;
 use std::fs::File;
 use std::io::{self, Read};
 use std::rt::Files;
+use std::time::Clock;
 
 /// The longest key.
 const MOST_KEY: usize = 1024;
@@ -13,20 +15,24 @@ const MOST_KEY: usize = 1024;
 /// As many bytes of its file are read: the longest key and an end of its line, of two bytes at most.
 const MOST_READ: u64 = 1026;
 
+/// What is said of a file without one.
+const NO_KEY: &str = "its first line is none, which has 1 to 1,024 bytes from `!` to `~`";
+
 /// The key in this file, or the status that says why there is none. Standard error says it in words.
-pub fn read_key<R: Files<File = File> + Eprint>(
+pub fn read_key<R: Files<File = File> + Clock + Eprint>(
     rt: &R,
     alloc: Global,
     path: &str,
 ) -> Result<Text, Status> {
-    let Ok(bytes) = read_front(rt, alloc, path) else {
-        let _ = eprintln!(rt; "newsdesk: the file of the key could not be read");
-        return Err(Status::Store);
+    let bytes = match read_front(rt, alloc, path) {
+        Ok(bytes) => bytes,
+        Err(error) => {
+            tell(rt, "the key in", path, &error);
+            return Err(Status::Store);
+        }
     };
     let Some(key) = key_in(bytes.as_slice()) else {
-        let _ = eprintln!(rt;
-            "newsdesk: the first line of the file is no key, which has 1 to 1,024 bytes from `!` to `~`"
-        );
+        tell(rt, "the key in", path, &NO_KEY);
         return Err(Status::Usage);
     };
     match Text::copy_of(alloc, key) {

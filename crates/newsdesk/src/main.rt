@@ -5,6 +5,7 @@ ghost use Rattle.std.specs.Prelude.{◌≡◌, ◌+◌, vec_len, IfOk};
 ghost use Rattle.news_io.specs.Devices.{file_disk};
 ghost use Rattle.news_pair.specs.Keeper.{pair_of};
 ghost use Rattle.news_room.specs.Stands.{SomeBook};
+ghost use Rattle.spoken_devices.specs.Meanings.{spoken_disk};
 
 mod descriptors;
 mod key;
@@ -28,6 +29,7 @@ use program_run::run;
 use progress::{Content, Meter, Watched};
 use run_status::{Status, tell_status};
 use server_doors::TcpDoor;
+use spoken_devices::{SpokenDisk, SpokenLink, StoreFile};
 use std::alloc::Global;
 use std::fs::File;
 use std::io::{ErrorKind, IsTerminal};
@@ -240,8 +242,11 @@ fn run_words<
     Ok(status)
 }
 
+/// A file of the store of a server, whose failures are told.
+type Spoken<R> = SpokenDisk<FileDisk<R>, R>;
+
 /// What a server over real files and connections starts with.
-type Newsdesk<R> = Setup<Pair<FileDisk<R>>, StdClock<R>, TcpDoor<R>, TcpLink<R>>;
+type Newsdesk<R> = Setup<Pair<Spoken<R>>, StdClock<R>, TcpDoor<R>, SpokenLink<R>>;
 
 /// The room of the store that the words name, with what its server needs beside it; or the status that says why there is none.
 fn server_of<
@@ -259,7 +264,7 @@ fn server_of<
     key: Option<Text>,
     serving: Serving<'_>,
 ) -> Result<Newsdesk<R>, Status>
-    ensures stands { IfOk result (λ setup. SomeBook (pair_of file_disk) setup.room) }
+    ensures stands { IfOk result (λ setup. SomeBook (pair_of (spoken_disk file_disk)) setup.room) }
     ensures clocks { IfOk result (λ setup. vec_len setup.clocks ≡ vec_len setup.links + 1) }
 {
     if options.every.is_some() || !Keeping::Writes.allows(options) {
@@ -270,6 +275,12 @@ fn server_of<
         None => None,
     };
     let (log, side) = open_files(rt, alloc, words, Keeping::Writes, options)?;
+    let (Ok(log), Ok(side)) = (
+        spoken(rt, log, StoreFile::Log),
+        spoken(rt, side, StoreFile::Side),
+    ) else {
+        return Err(Status::Memory);
+    };
     let room = match open_store(alloc, log, side) {
         Ok(room) => room,
         Err((status, _, _)) => return Err(status),
@@ -285,13 +296,22 @@ fn server_of<
     })
 }
 
+/// A file of the store, whose failures are told.
+fn spoken<R: Clock + Eprint + Clone>(
+    rt: &R,
+    disk: FileDisk<R>,
+    file: StoreFile,
+) -> Result<Spoken<R>, Memory> {
+    Ok(SpokenDisk::new(disk, rt.clone()?, file))
+}
+
 /// A door at the address, which asks for the key if there is one, a clock for each role, and a link over all receivers for each worker.
-fn outside_of<R: Net<Listener = TcpListener, Stream = TcpStream> + Clock + Clone + Drop>(
+fn outside_of<R: Net<Listener = TcpListener, Stream = TcpStream> + Clock + Eprint + Clone + Drop>(
     rt: &R,
     alloc: Global,
     key: Option<Text>,
     serving: Serving<'_>,
-) -> Result<(TcpDoor<R>, Vec<StdClock<R>>, Vec<TcpLink<R>>), Memory>
+) -> Result<(TcpDoor<R>, Vec<StdClock<R>>, Vec<SpokenLink<R>>), Memory>
     ensures { IfOk result (λ made. vec_len made.1 ≡ vec_len made.2 + 1) }
 {
     let address = Text::copy_of(alloc, serving.address.as_str())?;
@@ -301,7 +321,8 @@ fn outside_of<R: Net<Listener = TcpListener, Stream = TcpStream> + Clock + Clone
     let mut links = Vec::new(alloc);
     for _ in 0..serving.workers {
         clocks.push(StdClock::new(rt.clone()?))?;
-        links.push(link_to(rt, alloc, serving.receivers)?)?;
+        let link = link_to(rt, alloc, serving.receivers)?;
+        links.push(SpokenLink::new(alloc, link, rt.clone()?)?)?;
     }
     Ok((door, clocks, links))
 }

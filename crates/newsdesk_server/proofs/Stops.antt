@@ -105,7 +105,7 @@ holds_last calls_in holds b seen (r ∷ ss) s all = holds_last calls_in holds b 
 -- ---- the request that kept the stop
 
 abbrev DidAnswer : Answered → At × At → Type 0
-DidAnswer a t = IsAnsweredIn t.0 t.1 a.exchange.request a.exchange.reading a.exchange.answer
+DidAnswer a t = IsAnsweredIn t.0 t.1 a.exchange.request a.exchange.reading a.counts a.exchange.answer
 
 module _ (b : Book) (seen : List Entry) (a : Answered) (place : ℕ) where
   answered_stops : answered_holds a (pairs b seen (answered_calls a)) → a.exchange.answer.stop ≡ Some place → (length b.list < place) × IsStopAt (onto seen b).list place

@@ -10,6 +10,7 @@ use crate::summary::{tell, tell_summary};
 use news_io::{Clock, Keeper, Link, Sink};
 use server_doors::Door;
 use server_roles::{ServerEnd, run_roles};
+use server_watch::Watch;
 use std::alloc::Global;
 use std::sync::Wait;
 use std::thread::Threads;
@@ -49,7 +50,8 @@ pub fn run_serve<
         pass,
         server,
     } = ready;
-    let (room, end) = run_roles(rt, &routes, shared, pass, server);
+    let watch = Watch::new(alloc);
+    let (room, end) = run_roles(rt, &routes, &watch, shared, pass, server);
     let ServerEnd {
         ending,
         door,

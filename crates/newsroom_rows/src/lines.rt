@@ -83,6 +83,10 @@ fn answer(session: &mut Session, asked: Asked) -> io::Result<Told>
             drop(query);
             Err(invalid())
         }
+        Asked::Desk(question) => {
+            drop(question);
+            Err(invalid())
+        }
     }
 }
 

@@ -57,6 +57,8 @@ fn print_answer<R: Print + AllocGlobal>(rt: &R, answer: &Answer) -> io::Result<(
         | Answer::Item(_)
         | Answer::Queue(_)
         | Answer::Check { .. }
+        | Answer::Publication(_)
+        | Answer::NoPublication { .. }
         | Answer::Unknown { .. } => print_text(rt, answer_text(rt.alloc(), answer)),
         Answer::Frame(bytes) => print_bytes(rt, bytes),
         Answer::NoFrame { length } => println!(rt; "none of {length}"),

@@ -7,6 +7,7 @@ use feed_http::{Answers, HttpAnswer, answer_one};
 use http_wire::HttpRequest;
 use news_io::MemoryKeeper;
 use news_room::Room;
+use server_counts::Counts;
 use std::alloc::Global;
 use std::io;
 
@@ -36,18 +37,19 @@ impl StarvedRoom {
 
 impl Answers for StarvedRoom {
     ghost use Rattle.news_io.specs.Devices.{memory_keeper};
-    ghost use Rattle.feed_http.specs.Turn.{IsAnswered};
+    ghost use Rattle.feed_http.specs.Turn.{IsAnsweredUncounted};
     ghost use Rattle.plain_server.specs.Rooms.{StandsForSome};
 
     ghost is_ready = { λ starved. StandsForSome starved.room };
 
-    ghost turn = { λ old now request answer new. IsAnswered memory_keeper old.room now request answer new.room };
+    ghost turn = { λ old now request answer new. IsAnsweredUncounted memory_keeper old.room now request answer new.room };
 
     fn answer(&mut self, routes: &Routes, now: u64, request: &HttpRequest) -> HttpAnswer {
         if self.starves {
             self.hoard.take_all();
         }
-        let answer = answer_one(routes, &mut self.room, now, request);
+        let counts = Counts::new(routes.alloc());
+        let answer = answer_one(routes, &mut self.room, now, &counts, request);
         self.hoard.give_back();
         self.starves = !self.starves;
         answer

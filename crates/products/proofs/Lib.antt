@@ -3,3 +3,4 @@ pub mod Blocking
 pub mod Judged
 pub mod Listed
 pub mod Changed
+pub mod Told

@@ -1,4 +1,4 @@
-//! Products and subscribers: who is permitted a story, and to whom a publication is due.
+//! Products and subscribers: who is permitted a story and why, and to whom a publication is due.
 #![tactic(auto)]
 
 mod change;
@@ -6,6 +6,7 @@ mod due;
 mod judge;
 mod permit;
 mod table;
+mod verdict;
 
 pub use change::ProductChange;
 pub use table::Products;

@@ -118,7 +118,7 @@ impl Products {
     }
 
     /// Whether the product permits. One that is not there does not.
-    fn permits(&self, filters: &Filters, verdicts: &Verdicts, name: &Name) -> bool
+    pub(crate) fn permits(&self, filters: &Filters, verdicts: &Verdicts, name: &Name) -> bool
         ensures { (h : History) (story : Story) → KeepsFacts self.now h → Judges verdicts.now filters.now h story
             → result ≡ facts.product_permits h story (facts.product h name.now) }
     {
@@ -150,7 +150,7 @@ fn permits_by(how: How, matching: bool) -> bool
 }
 
 /// Whether there are no targets, or the name is one of them.
-fn is_target(name: &Name, targets: &[Name]) -> bool
+pub(crate) fn is_target(name: &Name, targets: &[Name]) -> bool
     ensures { result ≡ facts.is_target name.now targets.now }
 {
     targets.len() == 0 || name.is_among(targets)

@@ -21,19 +21,20 @@ use Rattle.desk_lines.specs.Lines.{line}
 use Rattle.desk_answers.specs.Answers.{answer_bytes}
 use Rattle.world_laws.specs.World.{World, run}
 use Rattle.news_room.specs.Steps.{entries}
-use Rattle.room_runs.specs.Lines.{archive_bytes, no_frames, has_answer, bad, of_question, of_asked, of_read, of_line}
+use Rattle.room_runs.specs.Lines.{archive_bytes, desk_bytes, no_frames, has_answer, bad, of_question, of_asked, of_read, of_line}
 use Rattle.program_events.specs.Turns.{OnlyServer}
 use Rattle.program_events.proofs.Members.{Means}
 use Rattle.program_events.specs.Events.{as_asked, as_read, asks_for, line_input, events_of, events_if, reading_if, answer_text, text_in}
 
 -- ---- the entry of what is asked for
 
--- the entry that follows what is asked for, if one does: of a question and of a search that of its tick
+-- the entry that follows what is asked for, if one does: of a question, a search and a desk that of its tick
 abbrev pub next_of : History → Asked → ℕ → Option Entry
 next_of h (asked.Request caller number command) m = follow h (Requested caller number command) m
 next_of h (asked.Query query) m = follow h Ticked m
 next_of h (asked.Receipt subscriber n) m = follow h (Receipted subscriber n) m
 next_of h (asked.Archive page query) m = follow h Ticked m
+next_of h (asked.Desk question) m = follow h Ticked m
 
 abbrev pub next_if : History → Result Asked LineProperty → ℕ → Option Entry
 next_if h (Ok what) reading = next_of h what (moment_at h reading)
@@ -49,6 +50,7 @@ asked_server write w (asked.Query q) reading IsFailed = refl
 asked_server write w (asked.Query q) reading IsStarved = refl
 asked_server write w (asked.Receipt subscriber n) reading fate = refl
 asked_server write w (asked.Archive page query) reading fate = refl
+asked_server write w (asked.Desk question) reading fate = refl
 
 server_if : (write : Writer) (w : World) (what : Result Asked LineProperty) (reading : ℕ) (fate : Fate) → (run write (events_if what reading fate) w).server ≡ put w.server (next_if w.server.list what reading) fate
 server_if write w (Ok what) reading fate = asked_server write w what reading fate
@@ -68,6 +70,7 @@ asked_adds start h (asked.Request caller number command) at = refl
 asked_adds start h (asked.Query q) at = question_adds start h q at (has_answer q)
 asked_adds start h (asked.Receipt subscriber n) at = refl
 asked_adds start h (asked.Archive page query) at = refl
+asked_adds start h (asked.Desk question) at = refl
 
 read_adds : (start : ℕ) (h : History) (said : Result Asked LineProperty) (at : ℕ) → (of_read start h said at).adds ≡ entries (next_if h (as_read said) at)
 read_adds start h (Ok what) at = asked_adds start h what at
@@ -88,6 +91,7 @@ asked_took start h (asked.Request caller number command) at = refl
 asked_took start h (asked.Query q) at = question_took start h q at (has_answer q)
 asked_took start h (asked.Receipt subscriber n) at = refl
 asked_took start h (asked.Archive page query) at = refl
+asked_took start h (asked.Desk question) at = refl
 
 read_took : (start : ℕ) (h : History) (said : Result Asked LineProperty) (at : ℕ) → (of_read start h said at).took ≡ reading_if (as_read said) at
 read_took start h (Ok what) at = asked_took start h what at
@@ -115,7 +119,7 @@ no_frame frame h (query.Item i) is = refl
 no_frame frame h (query.May user privilege) is = absurd (false≢true is)
 no_frame frame h query.Queue is = refl
 no_frame frame h query.Check is = refl
-no_frame frame h (query.Publication n) is = absurd (false≢true is)
+no_frame frame h (query.Publication n) is = refl
 no_frame frame h (query.LastOf i below) is = absurd (false≢true is)
 
 told_text : (write : Writer) (start : ℕ) (w : World) (q : Query) (at : ℕ) → has_answer q ≡ true → (of_question start w.server.list at q).text ≡ text_in (run write (events_if (Ok (asked.Query q)) at IsKept) w) (Ok (asked.Query q))
@@ -140,6 +144,9 @@ asked_text write start w (asked.Receipt subscriber n) at =
 asked_text write start w (asked.Archive page query) at =
     let h : History = w.server.list in
     ap (λ (g : History). archive_bytes g page query) (sym (kept_list h (follow h Ticked (moment_at h at))))
+asked_text write start w (asked.Desk question) at =
+    let h : History = w.server.list in
+    ap (λ (g : History). desk_bytes g question) (sym (kept_list h (follow h Ticked (moment_at h at))))
 
 read_text : (write : Writer) (start : ℕ) (w : World) (said : Result Asked LineProperty) (at : ℕ) → (of_read start w.server.list said at).text ≡ text_in (run write (events_if (as_read said) at IsKept) w) (as_read said)
 read_text write start w (Ok what) at = asked_text write start w what at
@@ -159,6 +166,7 @@ asked_only write w (asked.Query q) reading IsFailed = record { frames = refl; re
 asked_only write w (asked.Query q) reading IsStarved = record { frames = refl; receipts = refl; receivers = refl }
 asked_only write w (asked.Receipt subscriber n) reading fate = record { frames = refl; receipts = refl; receivers = refl }
 asked_only write w (asked.Archive page query) reading fate = record { frames = refl; receipts = refl; receivers = refl }
+asked_only write w (asked.Desk question) reading fate = record { frames = refl; receipts = refl; receivers = refl }
 
 only_if : (write : Writer) (w : World) (what : Result Asked LineProperty) (reading : ℕ) (fate : Fate) → OnlyServer w (run write (events_if what reading fate) w)
 only_if write w (Ok what) reading fate = asked_only write w what reading fate

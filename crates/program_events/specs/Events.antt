@@ -15,7 +15,7 @@ use Rattle.desk_lines.specs.declared.property.LineProperty.TheVariants as proper
 use Rattle.desk_lines.specs.Lines.{line}
 use Rattle.desk_answers.specs.Answers.{bad_bytes, answer_bytes}
 use Rattle.world_laws.specs.World.{World, Event, Given, Requests, Ticks, Asks, Forges, run}
-use Rattle.room_runs.specs.Lines.{LONGEST_LINE, archive_bytes, has_answer, answered_bytes}
+use Rattle.room_runs.specs.Lines.{LONGEST_LINE, archive_bytes, desk_bytes, has_answer, answered_bytes}
 
 -- an input: how its bytes are read as members, and what these are as events of the world
 pub record Input (X : Type 0) : Type 0 where
@@ -37,6 +37,7 @@ as_asked (asked.Request caller number command) = Ok (asked.Request caller number
 as_asked (asked.Query query) = if has_answer query then Ok (asked.Query query) else Err property.Ask
 as_asked (asked.Receipt subscriber n) = Ok (asked.Receipt subscriber n)
 as_asked (asked.Archive page query) = Ok (asked.Archive page query)
+as_asked (asked.Desk question) = Ok (asked.Desk question)
 
 abbrev pub as_read : Result Asked LineProperty → Result Asked LineProperty
 as_read (Ok what) = as_asked what
@@ -57,12 +58,13 @@ question_events query at IsFailed = Ticks at IsFailed ∷ []
 question_events query at IsStarved = Ticks at IsStarved ∷ []
 
 -- the events of what was asked for, at a reading of the clock and with what becomes of the entry that follows: as far as the newsroom
--- can know, no receiver sent the receipt; of a search of the archive its tick
+-- can know, no receiver sent the receipt; of a search of the archive and of a question of a desk its tick
 abbrev pub events_of : Asked → ℕ → Fate → List Event
 events_of (asked.Request caller number command) at fate = Requests caller number command at fate ∷ []
 events_of (asked.Query query) at fate = question_events query at fate
 events_of (asked.Receipt subscriber n) at fate = Forges subscriber n at fate ∷ []
 events_of (asked.Archive page query) at fate = Ticks at fate ∷ []
+events_of (asked.Desk question) at fate = Ticks at fate ∷ []
 
 -- what is bad asks for nothing
 abbrev pub events_if : Result Asked LineProperty → ℕ → Fate → List Event
@@ -84,9 +86,10 @@ abbrev pub newest_text : List Given → Bytes
 newest_text [] = []
 newest_text (g ∷ older) = answer_text g.answer
 
--- the newest answer; to a search what it finds in the archive of the world's list
+-- the newest answer; to a search what it finds in the archive of the world's list, and to a desk what it is told at that
 abbrev pub text_of : World → Asked → Bytes
 text_of w (asked.Archive page query) = archive_bytes w.server.list page query
+text_of w (asked.Desk question) = desk_bytes w.server.list question
 text_of w what = newest_text w.out
 
 -- what a line is answered in the world behind its events, or what is bad of it

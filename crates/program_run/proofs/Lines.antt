@@ -20,11 +20,14 @@ use Rattle.desk_answers.specs.Answers.{answer_bytes}
 use Rattle.archive_search.specs.declared.told.Told.{Told}
 use Rattle.archive_search.specs.declared.told.Told.TheVariants as archive
 use Rattle.archive_search.specs.Told.{archive_told}
+use Rattle.desk_questions.specs.declared.answer.DeskTold.{DeskTold}
+use Rattle.desk_questions.specs.declared.answer.DeskTold.TheVariants as desk
+use Rattle.desk_questions.specs.Told.{desk_told}
 use Rattle.world_laws.specs.World.{World, run}
 use Rattle.news_room.specs.Steps.{entries}
 use Rattle.room_runs.specs.Lines as room
 use Rattle.room_runs.specs.Lines.{of_question, of_asked, of_read, of_line}
-use Rattle.program_run.specs.Inputs.{answered_bytes, answer_text, told_bytes, read_as, as_asked, asks_for, line_events, line_readings, line_text, line_input}
+use Rattle.program_run.specs.Inputs.{answered_bytes, answer_text, told_bytes, desk_told_bytes, read_as, as_asked, asks_for, line_events, line_readings, line_text, line_input}
 use Rattle.program_run.proofs.Means.{Means, past}
 use Rattle.program_run.proofs.Sizes.{passes_past}
 
@@ -39,14 +42,19 @@ told_same : (told : Told) → room.told_bytes told ≡ told_bytes told
 told_same (archive.Found bytes) = refl
 told_same (archive.Refused bytes) = refl
 
+desk_told_same : (told : DeskTold) → room.desk_told_bytes told ≡ desk_told_bytes told
+desk_told_same (desk.Found bytes) = refl
+desk_told_same (desk.Unknown thing) = refl
+
 -- ---- the entry of what is asked for
 
--- the entry that follows what is asked for, if one does: of a question and of a search that of its tick
+-- the entry that follows what is asked for, if one does: of a question, a search and a desk that of its tick
 abbrev pub next_of : History → Asked → ℕ → Option Entry
 next_of h (asked.Request caller number command) m = follow h (Requested caller number command) m
 next_of h (asked.Query query) m = follow h Ticked m
 next_of h (asked.Receipt subscriber n) m = follow h (Receipted subscriber n) m
 next_of h (asked.Archive page query) m = follow h Ticked m
+next_of h (asked.Desk question) m = follow h Ticked m
 
 abbrev pub next_if : History → Result Asked LineProperty → ℕ → Option Entry
 next_if h (Ok what) reading = next_of h what (moment_at h reading)
@@ -62,6 +70,7 @@ asked_server write w (asked.Query q) reading IsFailed = refl
 asked_server write w (asked.Query q) reading IsStarved = refl
 asked_server write w (asked.Receipt subscriber n) reading fate = refl
 asked_server write w (asked.Archive page query) reading fate = refl
+asked_server write w (asked.Desk question) reading fate = refl
 
 server_if : (write : Writer) (w : World) (what : Result Asked LineProperty) (reading : ℕ) (fate : Fate) → (run write (line_events what reading fate) w).server ≡ put w.server (next_if w.server.list what reading) fate
 server_if write w (Ok what) reading fate = asked_server write w what reading fate
@@ -88,6 +97,7 @@ asked_adds h (asked.Request caller number command) at = refl
 asked_adds h (asked.Query q) at = question_adds h q at
 asked_adds h (asked.Receipt subscriber n) at = refl
 asked_adds h (asked.Archive page query) at = refl
+asked_adds h (asked.Desk question) at = refl
 
 read_adds : (h : History) (said : Result Asked LineProperty) (at : ℕ) → (of_read 65 h said at).adds ≡ entries (next_if h (read_as said) at)
 read_adds h (Ok what) at = asked_adds h what at
@@ -109,7 +119,7 @@ question_passes h (query.Item i) at = ticked_passes h at
 question_passes h (query.May user privilege) at = refl
 question_passes h query.Queue at = ticked_passes h at
 question_passes h query.Check at = ticked_passes h at
-question_passes h (query.Publication n) at = refl
+question_passes h (query.Publication n) at = ticked_passes h at
 question_passes h (query.LastOf i below) at = refl
 
 asked_passes : (h : History) (what : Asked) (at : ℕ) → (of_asked 65 h what at).passes ≡ past (next_if h (as_asked what) at) h
@@ -117,6 +127,7 @@ asked_passes h (asked.Request caller number command) at = passes_past h (follow 
 asked_passes h (asked.Query q) at = question_passes h q at
 asked_passes h (asked.Receipt subscriber n) at = passes_past h (follow h (Receipted subscriber n) (moment_at h at))
 asked_passes h (asked.Archive page query) at = ticked_passes h at
+asked_passes h (asked.Desk question) at = ticked_passes h at
 
 read_passes : (h : History) (said : Result Asked LineProperty) (at : ℕ) → (of_read 65 h said at).passes ≡ past (next_if h (read_as said) at) h
 read_passes h (Ok what) at = asked_passes h what at
@@ -143,6 +154,7 @@ asked_took h (asked.Request caller number command) at = refl
 asked_took h (asked.Query q) at = question_took h q at
 asked_took h (asked.Receipt subscriber n) at = refl
 asked_took h (asked.Archive page query) at = refl
+asked_took h (asked.Desk question) at = refl
 
 read_took : (h : History) (said : Result Asked LineProperty) (at : ℕ) → (of_read 65 h said at).took ≡ line_readings (read_as said) at
 read_took h (Ok what) at = asked_took h what at
@@ -178,7 +190,7 @@ question_text write w (query.Item i) at = told_text write w (query.Item i) at (�
 question_text write w (query.May user privilege) at = refl
 question_text write w query.Queue at = told_text write w query.Queue at (λ frame h. refl)
 question_text write w query.Check at = told_text write w query.Check at (λ frame h. refl)
-question_text write w (query.Publication n) at = refl
+question_text write w (query.Publication n) at = told_text write w (query.Publication n) at (λ frame h. refl)
 question_text write w (query.LastOf i below) at = refl
 
 asked_text : (write : Writer) (w : World) (what : Asked) (at : ℕ) → (of_asked 65 w.server.list what at).text ≡ line_text (run write (line_events (as_asked what) at IsKept) w) (as_asked what)
@@ -193,6 +205,10 @@ asked_text write w (asked.Archive page query) at =
     let h : History = w.server.list in
     let o : Option Entry = follow h Ticked (moment_at h at) in
     told_same (archive_told (more o h) page query) ∙ ap (λ (g : History). told_bytes (archive_told g page query)) (sym (kept_list h o))
+asked_text write w (asked.Desk question) at =
+    let h : History = w.server.list in
+    let o : Option Entry = follow h Ticked (moment_at h at) in
+    desk_told_same (desk_told (more o h) question) ∙ ap (λ (g : History). desk_told_bytes (desk_told g question)) (sym (kept_list h o))
 
 read_text : (write : Writer) (w : World) (said : Result Asked LineProperty) (at : ℕ) → (of_read 65 w.server.list said at).text ≡ line_text (run write (line_events (read_as said) at IsKept) w) (read_as said)
 read_text write w (Ok what) at = asked_text write w what at

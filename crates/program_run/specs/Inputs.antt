@@ -1,5 +1,6 @@
 -- The formats of the newsroom: lines, the stories of a wire, one item, tables, packages, reports and answers.
 use Rattle.std.specs.Prelude.{ℕ, Bool, true, false, if◌then◌else◌, List, [], ◌∷◌, ◌++◌, length, map, Option, Some, None, Result, Ok, Err}
+use Rattle.news_types.specs.declared.denial.Denial.TheVariants.{UnknownThing}
 use Rattle.news_types.specs.declared.query.Query.{Query}
 use Rattle.news_types.specs.declared.query.Query.TheVariants as query
 use Rattle.news_types.specs.declared.story.Incoming.{Incoming}
@@ -26,6 +27,9 @@ use Rattle.world_laws.specs.World.{World, Event, Given, Requests, Ticks, Forges,
 use Rattle.archive_search.specs.declared.told.Told.{Told}
 use Rattle.archive_search.specs.declared.told.Told.TheVariants as archive
 use Rattle.archive_search.specs.Told.{archive_told}
+use Rattle.desk_questions.specs.declared.answer.DeskTold.{DeskTold}
+use Rattle.desk_questions.specs.declared.answer.DeskTold.TheVariants as desk
+use Rattle.desk_questions.specs.Told.{desk_told}
 use Rattle.archive_search.specs.Answers.{AnswersQuery}
 use Rattle.subscriber_import.specs.Fields as fields
 use Rattle.subscriber_import.specs.Fields.{wanted_of, command_of}
@@ -68,6 +72,11 @@ abbrev pub told_bytes : Told → Bytes
 told_bytes (archive.Found bytes) = bytes
 told_bytes (archive.Refused bytes) = bytes
 
+-- what a desk is told, or that a thing that it names is not there
+abbrev pub desk_told_bytes : DeskTold → Bytes
+desk_told_bytes (desk.Found bytes) = bytes
+desk_told_bytes (desk.Unknown thing) = denial_bytes (UnknownThing thing)
+
 -- ---- lines
 
 -- the questions that a line may ask
@@ -76,6 +85,7 @@ has_answer (query.Feed s after) = true
 has_answer (query.Item i) = true
 has_answer query.Queue = true
 has_answer query.Check = true
+has_answer (query.Publication n) = true
 has_answer _ = false
 
 abbrev pub as_asked : Asked → Result Asked LineProperty
@@ -91,21 +101,24 @@ abbrev pub asks_for : Line → Result Asked LineProperty
 asks_for None = Err property.Line
 asks_for (Some bytes) = read_as (line bytes)
 
--- as far as the newsroom can know, no receiver sent the receipt; of a search of the archive there is its tick
+-- as far as the newsroom can know, no receiver sent the receipt; of a search of the archive and of a question of
+-- a desk there is its tick
 abbrev pub line_events : Result Asked LineProperty → ℕ → Fate → List Event
 line_events (Ok (asked.Request caller number command)) at fate = Requests caller number command at fate ∷ []
 line_events (Ok (asked.Query query)) at fate = question_events query at fate
 line_events (Ok (asked.Receipt subscriber n)) at fate = Forges subscriber n at fate ∷ []
 line_events (Ok (asked.Archive page query)) at fate = Ticks at fate ∷ []
+line_events (Ok (asked.Desk question)) at fate = Ticks at fate ∷ []
 line_events (Err p) at fate = []
 
 abbrev pub line_readings : Result Asked LineProperty → ℕ → List ℕ
 line_readings (Ok what) at = at ∷ []
 line_readings (Err p) at = []
 
--- the newest answer; to a search what it finds in the archive of the world's list
+-- the newest answer; to a search what it finds in the archive of the world's list, and to a desk what it is told at that
 abbrev pub line_text : World → Result Asked LineProperty → Bytes
 line_text w (Ok (asked.Archive page query)) = told_bytes (archive_told w.server.list page query)
+line_text w (Ok (asked.Desk question)) = desk_told_bytes (desk_told w.server.list question)
 line_text w (Ok what) = newest_text w.out
 line_text w (Err p) = bad_bytes p
 

@@ -4,11 +4,11 @@ ghost use Rattle.std.specs.Option.{option_map};
 ghost use Rattle.news_types.specs.Names.{Bytes, is_in, AreInOrder};
 ghost use Rattle.news_types.specs.Feeds.{feed_of};
 ghost use Rattle.news_types.specs.Frames.{numbered};
-ghost use Rattle.publish_queue.specs.Keeps.{Facts, Keeps, number_of};
+ghost use Rattle.publish_queue.specs.Keeps.{Facts, Keeps, number_of, moment_of};
 ghost use Rattle.publish_queue.specs.Facts.{facts_of};
 
 use crate::queue::Queue;
-use news_types::Name;
+use news_types::{Moment, Name};
 
 /// How a feed stands.
 #[derive(Clone, Copy, Debug, PartialEq, Eq)]
@@ -41,6 +41,17 @@ impl Queue {
         let at = self.feeds.find(subscriber)?;
         let index = k.checked_sub(1)? as usize;
         self.feeds.feeds[at].row.number_at(index)
+    }
+
+    /// The release of an entry of a feed for the subscriber, counted from 1. Nothing where the subscriber
+    /// or the entry is not there.
+    pub fn release(&self, subscriber: &Name, k: u32) -> Option<Moment>
+        ensures { (f : Facts) → Keeps self.now f →
+            result ≡ (if is_in subscriber.now f.names then option_map moment_of (numbered (feed_of f.publications f.moment subscriber.now) k) else None) }
+    {
+        let at = self.feeds.find(subscriber)?;
+        let index = k.checked_sub(1)? as usize;
+        self.feeds.feeds[at].row.release_at(index)
     }
 
     /// How the feed of a subscriber stands. Nothing where the subscriber is not there.

@@ -11,9 +11,10 @@ use Rattle.news_types.specs.declared.query.Answer.TheVariants as told
 use Rattle.news_types.specs.declared.words.Thing.TheVariants as thing
 use Rattle.news_types.specs.Names.{Bytes}
 use Rattle.news_types.specs.Products.{is_subscriber}
-use Rattle.news_types.specs.Answers.{query_answer, item_answer}
+use Rattle.news_types.specs.Answers.{query_answer, item_answer, publication_answer, publication_at}
 use Rattle.news_types.specs.Items.{Item}
-use Rattle.news_types.specs.Publications.{item, state}
+use Rattle.news_types.specs.Due.{Pub}
+use Rattle.news_types.specs.Publications.{item, state, pubs}
 use Rattle.news_types.specs.declared.words.State.{State}
 use Rattle.newsroom.specs.Asking.{asks_frame}
 use Rattle.news_types.specs.History.{History, moment, moment_at}
@@ -54,11 +55,16 @@ by_item i (Some it) (Some from) = tt
 by_item i (Some it) None = tt
 by_item i None from = tt
 
+by_publication : (ps : List Pub) (p : Option Pub) → HasLine (publication_answer ps p)
+by_publication ps None = tt
+by_publication ps (Some p) = tt
+
 pub has_line : (h : History) (q : Query) → has_answer q ≡ true → HasLine (query_answer no_frames h q)
 has_line h (query.Feed s after) asked = by_subscriber (is_subscriber h s) _ s _
 has_line h (query.Item i) asked = by_item i (item h i) (state h i (moment h))
 has_line h query.Queue asked = tt
 has_line h query.Check asked = tt
+has_line h (query.Publication n) asked = by_publication (pubs h) (publication_at n (pubs h))
 has_line h _ asked = absurd (false≢true asked)
 
 -- no line asks for a frame
@@ -67,6 +73,7 @@ no_frame (query.Feed s after) asked = refl
 no_frame (query.Item i) asked = refl
 no_frame query.Queue asked = refl
 no_frame query.Check asked = refl
+no_frame (query.Publication n) asked = refl
 no_frame _ asked = absurd (false≢true asked)
 
 behind_one : (o : Option Entry) (h : History) → followed_by (entries o) h ≡ behind o h

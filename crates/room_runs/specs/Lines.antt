@@ -1,6 +1,7 @@
 -- What a line of a batch is answered at a list and a reading of the clock, and which entry it adds.
 use Rattle.std.specs.Prelude.{ℕ, ◌+◌, Bool, true, false, nat_lt, if◌then◌else◌, List, [], ◌∷◌, Some, None, Result, Ok, Err}
 use Rattle.news_types.specs.declared.entry.Entry.{Entry}
+use Rattle.news_types.specs.declared.denial.Denial.TheVariants.{UnknownThing}
 use Rattle.news_types.specs.declared.query.Query.{Query}
 use Rattle.news_types.specs.declared.query.Query.TheVariants as query
 use Rattle.news_types.specs.Names.{Bytes}
@@ -20,6 +21,10 @@ use Rattle.desk_answers.specs.Answers.{reply_bytes, denial_bytes, bad_bytes, ans
 use Rattle.archive_search.specs.declared.told.Told.{Told}
 use Rattle.archive_search.specs.declared.told.Told.TheVariants as archive
 use Rattle.archive_search.specs.Told.{archive_told}
+use Rattle.desk_views.specs.declared.question.DeskQuestion.{DeskQuestion}
+use Rattle.desk_questions.specs.declared.answer.DeskTold.{DeskTold}
+use Rattle.desk_questions.specs.declared.answer.DeskTold.TheVariants as desk
+use Rattle.desk_questions.specs.Told.{desk_told}
 use Rattle.news_room.specs.Log.{sizes}
 use Rattle.news_room.specs.Stands.{limit_of}
 use Rattle.news_room.specs.Steps.{entries, tick_entries}
@@ -76,12 +81,25 @@ archive_bytes h page query = told_bytes (archive_told h page query)
 abbrev pub of_search : ℕ → History → ℕ → ℕ → Bytes → Outcome Entry
 of_search before h at page query = adding before h at (archive_bytes (ticked h (moment_at h at)) page query) (tick_entries h (moment_at h at))
 
+abbrev pub desk_told_bytes : DeskTold → Bytes
+desk_told_bytes (desk.Found bytes) = bytes
+desk_told_bytes (desk.Unknown thing) = denial_bytes (UnknownThing thing)
+
+-- what a desk is told at a list, or that a thing that it names is not there
+abbrev pub desk_bytes : History → DeskQuestion → Bytes
+desk_bytes h question = desk_told_bytes (desk_told h question)
+
+-- a desk asks behind a tick, as a question
+abbrev pub of_desk : ℕ → History → ℕ → DeskQuestion → Outcome Entry
+of_desk before h at question = adding before h at (desk_bytes (ticked h (moment_at h at)) question) (tick_entries h (moment_at h at))
+
 -- the questions that a line may ask
 abbrev pub has_answer : Query → Bool
 has_answer (query.Feed s after) = true
 has_answer (query.Item i) = true
 has_answer query.Queue = true
 has_answer query.Check = true
+has_answer (query.Publication n) = true
 has_answer _ = false
 
 -- what a line asks for
@@ -90,6 +108,7 @@ of_asked before h (asked.Request caller number command) at = of_outcome before h
 of_asked before h (asked.Query query) at = if has_answer query then of_question before h at query else bad property.Ask
 of_asked before h (asked.Receipt subscriber n) at = of_outcome before h at (receipt h subscriber n at)
 of_asked before h (asked.Archive page query) at = of_search before h at page query
+of_asked before h (asked.Desk question) at = of_desk before h at question
 
 -- a line as it is read
 abbrev pub of_read : ℕ → Meaning Entry (Result Asked LineProperty)

@@ -9,13 +9,17 @@ ghost use Rattle.desk_answers.specs.Answers.{answer_bytes};
 ghost use Rattle.news_types.specs.Answers.{query_answer};
 ghost use Rattle.news_types.specs.Books.{Book};
 ghost use Rattle.news_room.specs.Stands.{Stands, SomeBook};
-ghost use Rattle.room_runs.specs.Lines.{archive_bytes, has_answer, no_frames};
+ghost use Rattle.room_runs.specs.Lines.{archive_bytes, desk_bytes, has_answer, no_frames};
 ghost use Rattle.room_runs.specs.Texts.{IsText};
 
 use crate::scope::can_tell;
-use crate::texts::{bad_line, question_answered, receipt_answered, request_answered};
+use crate::texts::{
+    bad_line, question_answered, receipt_answered, request_answered, unknown_answered,
+};
 use archive_search::{Told, tell_archive};
 use desk_lines::{Asked, LineFault, LineProperty, read_line};
+use desk_questions::{DeskTold, answer_desk};
+use desk_views::DeskQuestion;
 use line_run::{Answering, Stopped};
 use news_io::{Clock, Keeper};
 use news_room::{Room, Ticked};
@@ -80,6 +84,21 @@ impl<K: Keeper, C: Clock> LineDesk<'_, K, C> {
         }
     }
 
+    // Releases what waits, and then answers a question of a desk.
+    fn ask_desk(&mut self, question: &DeskQuestion) -> Result<Vec<u8>, Stopped>
+        requires stands { (s : Shelf) × ((h : History) × StandsAt K.keeper s (line_hand self.old) h) }
+        ensures step { (s : Shelf) (h : History) → StandsAt K.keeper s (line_hand self.old) h
+            → IsStep (of_asked s.before) (life K.keeper C.clock line_hand s) self.old self.new h (asked.Desk question.now) result }
+        ensures count { StepCounts (K.keeper.faults self.old.room.now.keeper) (K.keeper.faults self.new.room.now.keeper) result }
+    {
+        let now = self.clock.now();
+        match self.room.tick(now) {
+            Ticked::Kept { .. } | Ticked::Still => desk_told(self.alloc, self.room, question),
+            Ticked::Fault => Err(Stopped::Fault),
+            Ticked::Full { .. } => Err(Stopped::Full),
+        }
+    }
+
     // Takes a receipt to the room, and writes the answer.
     fn receipt(&mut self, subscriber: Name, n: u32) -> Result<Vec<u8>, Stopped>
         requires stands { (s : Shelf) × ((h : History) × StandsAt K.keeper s (line_hand self.old) h) }
@@ -106,6 +125,22 @@ fn found<K: Keeper>(
     match tell_archive(alloc, room, page, query.as_str()) {
         Ok(Told::Found(text)) => Ok(text.into_vec()),
         Ok(Told::Refused(text)) => Ok(text.into_vec()),
+        Err(Memory) => Err(Stopped::Memory),
+    }
+}
+
+/// What a desk is told at a room's list as it is, or that a thing that it names is not there.
+fn desk_told<K: Keeper>(
+    alloc: Global,
+    room: &Room<K>,
+    question: &DeskQuestion,
+) -> Result<Vec<u8>, Stopped>
+    requires { SomeBook K.keeper room.now }
+    ensures { (b : Book) → Stands K.keeper room.now b → IsText (desk_bytes b.list question.now) result }
+{
+    match answer_desk(alloc, room, question) {
+        Ok(DeskTold::Found(text)) => Ok(text.into_vec()),
+        Ok(DeskTold::Unknown(thing)) => unknown_answered(alloc, thing),
         Err(Memory) => Err(Stopped::Memory),
     }
 }
@@ -146,6 +181,7 @@ impl<K: Keeper, C: Clock> LineDesk<'_, K, C> {
             Asked::Query(query) => self.answer_query(&query),
             Asked::Receipt { subscriber, n } => self.receipt(subscriber, n),
             Asked::Archive { page, query } => self.search(page, &query),
+            Asked::Desk(question) => self.ask_desk(&question),
         }
     }
 

@@ -9,7 +9,11 @@ pub(crate) fn can_tell(query: &Query) -> bool
     ensures { result ≡ has_answer query.now }
 {
     match query {
-        Query::Feed { .. } | Query::Item { .. } | Query::Queue | Query::Check => true,
+        Query::Feed { .. }
+        | Query::Item { .. }
+        | Query::Queue
+        | Query::Check
+        | Query::Publication { .. } => true,
         _ => false,
     }
 }

@@ -1,14 +1,15 @@
 //! The texts of answers.
 ghost use Rattle.std.specs.Prelude.{◌≡◌, IfOk};
+ghost use Rattle.news_types.specs.declared.denial.Denial.TheVariants.{UnknownThing};
 ghost use Rattle.news_types.specs.Names.{Bytes};
-ghost use Rattle.desk_answers.specs.Answers.{bad_bytes, answer_bytes, HasLine};
+ghost use Rattle.desk_answers.specs.Answers.{bad_bytes, denial_bytes, answer_bytes, HasLine};
 ghost use Rattle.room_runs.specs.Texts.{IsText, IsAnswerText, IsReceiptText};
 
 use desk_answers::{answer_text, bad_text, denial_text, reply_text};
 use desk_lines::LineProperty;
 use line_run::Stopped;
 use news_room::{Handled, Kept};
-use news_types::{Answer, Bytes, Memory};
+use news_types::{Answer, Bytes, Denial, Memory, Thing};
 use std::alloc::Global;
 
 /// The text that was written, if there was memory for it.
@@ -26,6 +27,13 @@ pub(crate) fn bad_line(alloc: Global, property: LineProperty) -> Result<Vec<u8>,
     ensures { IsText (bad_bytes property) result }
 {
     text_of(bad_text(alloc, property))
+}
+
+/// What a question is answered that names a thing which is not there.
+pub(crate) fn unknown_answered(alloc: Global, thing: Thing) -> Result<Vec<u8>, Stopped>
+    ensures { IsText (denial_bytes (UnknownThing thing)) result }
+{
+    text_of(denial_text(alloc, &Denial::UnknownThing { thing }))
 }
 
 /// What a question is answered.

@@ -6,6 +6,7 @@ mod deny;
 mod due;
 mod ingest;
 mod judge;
+mod reach;
 mod route;
 mod rules;
 mod sources;

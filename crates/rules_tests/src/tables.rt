@@ -69,6 +69,10 @@ impl Tables {
                 drop(query);
                 Err(Memory)
             }
+            Asked::Desk(question) => {
+                drop(question);
+                Err(Memory)
+            }
         }
     }
 

@@ -2,6 +2,7 @@
 use crate::held::{Fate, Held, Terms};
 use crate::tcp_sink::TcpSink;
 use crate::tcp_source::TcpSource;
+use error_lines::tell;
 use mio::net::{TcpListener, TcpStream};
 use mio::{Events, Interest, Poll, Token};
 use std::alloc::Global;
@@ -170,11 +171,13 @@ impl Hall {
     }
 
     /// Tells how many connections were lost, at most once a minute.
-    fn tell<R: Eprint>(&mut self, rt: &R, now: Instant) {
+    fn tell_lost<R: Clock + Eprint>(&mut self, rt: &R, now: Instant) {
         if self.lost > 0 && now.duration_since(self.told) >= Duration::from_secs(TELLING) {
-            let _ = eprintln!(rt;
-                "connections that failed or were closed before their end: {}",
-                self.lost
+            tell(
+                rt,
+                "connections that failed or were closed before their end",
+                "",
+                &self.lost,
             );
             self.lost = 0;
             self.told = now;
@@ -212,7 +215,7 @@ impl Hall {
             let now = Instant::now(rt)?;
             self.admit(now)?;
             self.go_on(now, key);
-            self.tell(rt, now);
+            self.tell_lost(rt, now);
             if !self.held.iter().any(|one| one.is_ready()) {
                 self.wait()?;
             }

@@ -5,6 +5,7 @@ use crate::door::Door;
 use crate::hall::Hall;
 use crate::tcp_sink::TcpSink;
 use crate::tcp_source::TcpSource;
+use error_lines::tell;
 use news_io::{Failed, Faults};
 use news_types::Text;
 use std::alloc::Global;
@@ -16,6 +17,8 @@ use std::time::{Clock, Duration};
 const PATIENCE: u64 = 60;
 
 /// A door that listens at an address, from its first call on. It tells nothing of its connections.
+///
+/// That it listens, or why it does not, it tells on standard error.
 ///
 /// It holds at most 64 of them, and reads them beside each other: one is given when a request of it is whole, and has the key
 /// where one is asked for. It is taken back behind the answer, and held on until the next request is whole, unless it has ended. One that fails or runs out of its time
@@ -69,13 +72,28 @@ impl<R: Drop> TcpDoor<R> {
 }
 
 impl<R: Net<Listener = TcpListener, Stream = TcpStream> + Clock + Eprint> TcpDoor<R> {
+    /// Listens, and tells so on standard error, or why not.
+    fn open(&self) -> io::Result<Hall> {
+        let address = self.address.as_str();
+        match Hall::open(&self.rt, self.alloc, address, self.patience) {
+            Ok(hall) => {
+                tell(&self.rt, "listening at", address, &"ready");
+                Ok(hall)
+            }
+            Err(error) => {
+                tell(&self.rt, "listening at", address, &error);
+                Err(error)
+            }
+        }
+    }
+
     /// The next connection whose request is whole, behind the first call's listening.
     fn next(&mut self) -> io::Result<(TcpSource, TcpSink)>
         ensures { self.new.faults ≡ self.old.faults }
     {
         let mut hall = match self.hall.take() {
             Some(hall) => hall,
-            None => Hall::open(&self.rt, self.alloc, self.address.as_str(), self.patience)?,
+            None => self.open()?,
         };
         let key = match &self.key {
             Some(key) => Some(key.as_str().as_bytes()),

@@ -6,6 +6,7 @@ use crate::job::{Job, JobDone};
 use news_io::{Clock, Keeper, Link};
 use news_room::Room;
 use room_lock::Shared;
+use server_watch::Watch;
 use shared_workers::worker_loop;
 use std::sync::Wait;
 
@@ -17,8 +18,8 @@ pub trait Crew<C, L> {
     /// What a job comes to.
     ghost did: { Self → Job C L → JobDone C L → Type 0 };
 
-    /// Does one job.
-    fn work<R: Wait>(&self, rt: &R, job: Job<C, L>) -> JobDone<C, L>
+    /// Does one job, and counts in the watch what happens in it.
+    fn work<R: Wait>(&self, rt: &R, watch: &Watch, job: Job<C, L>) -> JobDone<C, L>
         requires { is_ready self.now job }
         ensures { did self.now job result };
 }
@@ -33,7 +34,7 @@ impl<K: Keeper + Drop, C: Clock, L: Link> Crew<C, L> for Shared<Room<K>> {
 
     ghost did = { λ shared job done. WentRounds C.clock L.link (base_of shared) (Stands K.keeper (start_of shared)) job done };
 
-    fn work<R: Wait>(&self, rt: &R, job: Job<C, L>) -> JobDone<C, L>
+    fn work<R: Wait>(&self, rt: &R, watch: &Watch, job: Job<C, L>) -> JobDone<C, L>
         requires { lock_of job.pass ≡ id_of self.now }
         ensures { WentRounds C.clock L.link (base_of self.now) (Stands K.keeper (start_of self.now)) job result }
     {
@@ -42,7 +43,7 @@ impl<K: Keeper + Drop, C: Clock, L: Link> Crew<C, L> for Shared<Room<K>> {
             mut clock,
             mut link,
         } = job;
-        let (tally, pass) = worker_loop(rt, self, pass, &mut clock, &mut link);
+        let (tally, pass) = worker_loop(rt, watch, self, pass, &mut clock, &mut link);
         JobDone {
             pass,
             clock,

@@ -13,6 +13,7 @@ use news_io::{Clock, Keeper};
 use news_room::Room;
 use room_lock::{Pass, Shared};
 use server_doors::Door;
+use server_watch::Watch;
 use shared_connections::serve_connection;
 use std::sync::Wait;
 
@@ -33,6 +34,7 @@ pub enum Ending {
 fn receive<K: Keeper + Drop, C: Clock, G: Door, R: Wait>(
     rt: &R,
     routes: &Routes,
+    watch: &Watch,
     shared: &Shared<Room<K>>,
     pass: Pass,
     clock: &mut C,
@@ -53,6 +55,7 @@ fn receive<K: Keeper + Drop, C: Clock, G: Door, R: Wait>(
         let (ended, next) = serve_connection(
             rt,
             routes,
+            watch,
             shared,
             pass,
             clock,
@@ -76,6 +79,7 @@ fn receive<K: Keeper + Drop, C: Clock, G: Door, R: Wait>(
 pub fn first_role<K: Keeper + Drop, C: Clock + Drop, G: Door, R: Wait>(
     rt: &R,
     routes: &Routes,
+    watch: &Watch,
     shared: &Shared<Room<K>>,
     pass: Pass,
     mut clock: C,
@@ -86,7 +90,7 @@ pub fn first_role<K: Keeper + Drop, C: Clock + Drop, G: Door, R: Wait>(
     ensures first { First G.door C.clock (Stands K.keeper (start_of shared.now)) door result.2 clock (front pass) (calls pass) (front result.1) (calls result.1) result.0 }
     ensures door_faults { CountsFaults (is_door_fault result.0) (G.door.faults door) (G.door.faults result.2) }
 {
-    let (ending, pass) = receive(rt, routes, shared, pass, &mut clock, &mut door);
+    let (ending, pass) = receive(rt, routes, watch, shared, pass, &mut clock, &mut door);
     match ending {
         Ending::Stopped { place } => (Ending::Stopped { place }, pass, door),
         Ending::DoorFault => {

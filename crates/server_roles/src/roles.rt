@@ -24,6 +24,7 @@ use news_room::Room;
 use news_types::StandsFor;
 use room_lock::{Pass, Shared};
 use server_doors::Door;
+use server_watch::Watch;
 use std::sync::Wait;
 use std::thread::{Threads, join};
 
@@ -57,6 +58,7 @@ fn beside<
 >(
     rt: &R,
     routes: &Routes,
+    watch: &Watch,
     shared: &Shared<Room<K>>,
     pass: Pass,
     clock: C,
@@ -78,13 +80,13 @@ fn beside<
             requires { IsSync R.row × (vec_len jobs ≤ vec_capacity done) × (done.items ≡ []) × All (λ j. lock_of j.pass ≡ id_of shared.now) jobs.items }
             ensures { (vec_len result ≡ vec_len jobs)
                 × AllZip (WentRounds C.clock L.link (base_of shared.entry.now) (Stands K.keeper (start_of shared.entry.now))) jobs.items result.items }
-        { team(rt, shared, jobs, done) },
+        { team(rt, watch, shared, jobs, done) },
         || -> (Ending, Pass, G)
             requires { lock_of pass ≡ id_of shared.now }
             ensures { (lock_of result.1 ≡ lock_of pass)
                 × First G.door C.clock (Stands K.keeper (start_of shared.entry.now)) door result.2 clock (front pass) (calls pass) (front result.1) (calls result.1) result.0
                 × CountsFaults (is_door_fault result.0) (G.door.faults door) (G.door.faults result.2) }
-        { first_role(rt, routes, shared, pass, clock, door) },
+        { first_role(rt, routes, watch, shared, pass, clock, door) },
     )
 }
 
@@ -124,6 +126,7 @@ fn together<
 >(
     rt: &R,
     routes: &Routes,
+    watch: &Watch,
     shared: &Shared<Room<K>>,
     pass: Pass,
     server: Server<C, G, L>,
@@ -141,7 +144,9 @@ fn together<
         done,
         links,
     } = server;
-    let (all, (ending, first, door)) = beside(rt, routes, shared, pass, clock, door, jobs, done);
+    let (all, (ending, first, door)) = beside(
+        rt, routes, watch, shared, pass, clock, door, jobs, done,
+    );
     let (pass, links) = part(shared, first, all, links);
     (
         pass,
@@ -164,6 +169,7 @@ pub fn run_roles<
 >(
     rt: &R,
     routes: &Routes,
+    watch: &Watch,
     shared: Shared<Room<K>>,
     pass: Pass,
     server: Server<C, G, L>,
@@ -175,6 +181,6 @@ pub fn run_roles<
         × Roles G.door C.clock L.link (base_of shared) (Stands K.keeper (start_of shared)) server.door result.1.door server.clock (front pass) (calls pass) server.jobs.items server.links.items result.1.links.items result.1.ending more }
     ensures door_faults { CountsFaults (is_door_fault result.1.ending) (G.door.faults server.door) (G.door.faults result.1.door) }
 {
-    let (pass, end) = together(rt, routes, &shared, pass, server);
+    let (pass, end) = together(rt, routes, watch, &shared, pass, server);
     (close_at_last(rt, shared, pass), end)
 }

@@ -7,6 +7,7 @@ ghost use Rattle.server_roles.specs.declared.job.JobDone.{JobDone};
 
 use crate::crew::Crew;
 use crate::job::{Job, JobDone};
+use server_watch::Watch;
 use std::sync::Wait;
 use std::thread::{Threads, join};
 
@@ -14,6 +15,7 @@ use std::thread::{Threads, join};
 /// vector `done` has room.
 pub fn team<C: Send + Drop, L: Send + Drop, S: Crew<C, L> + Sync, R: Threads + Wait + Sync>(
     rt: &R,
+    watch: &Watch,
     crew: &S,
     mut jobs: Vec<Job<C, L>>,
     done: Vec<JobDone<C, L>>,
@@ -32,12 +34,12 @@ pub fn team<C: Send + Drop, L: Send + Drop, S: Crew<C, L> + Sync, R: Threads + W
         || -> JobDone<C, L>
             requires { S.is_ready crew.now job }
             ensures { S.did crew.entry.now job result }
-        { crew.work(rt, job) },
+        { crew.work(rt, watch, job) },
         || -> Vec<JobDone<C, L>>
             requires { IsSync R.row × IsSync S.row × (vec_len done + vec_len jobs ≤ vec_capacity done) × All (λ j. S.is_ready crew.now j) jobs.items }
             ensures { (vec_capacity result ≡ vec_capacity done) × (vec_len result ≡ vec_len done + vec_len jobs)
                 × ((more : List (JobDone C L)) × (result.items ≡ done.items ++ more) × AllZip (S.did crew.entry.now) jobs.items more) }
-        { team(rt, crew, jobs, done) },
+        { team(rt, watch, crew, jobs, done) },
     );
     all.push_reserved(mine);
     all

@@ -9,6 +9,7 @@ use feed_http::Ended;
 use news_io::{MemoryClock, MemoryKeeper, MemorySink, MemorySource};
 use news_room::Room;
 use room_lock::{Pass, Shared};
+use server_watch::Watch;
 use shared_connections::serve_connection;
 use std::alloc::{AllocError, Global};
 use std::process::Abort;
@@ -127,7 +128,10 @@ fn served(
     };
     let (shared, pass) = locked(rt, alloc, room_using(rt, alloc, used));
     let mut clock = steady_clock(rt, alloc);
-    let (ended, _pass) = serve_connection(rt, &routes, &shared, pass, &mut clock, source, sink);
+    let watch = Watch::new(alloc);
+    let (ended, _pass) = serve_connection(
+        rt, &routes, &watch, &shared, pass, &mut clock, source, sink,
+    );
     ended
 }
 
@@ -198,9 +202,11 @@ fn asks<R: Wait>(
     let mut clock = MemoryClock::new(readings);
     let mut source = MemorySource::new(input).in_pieces_of(1);
     let mut sink = MemorySink::new(alloc);
+    let watch = Watch::new(alloc);
     let (ended, pass) = serve_connection(
         rt,
         routes,
+        &watch,
         shared,
         pass,
         &mut clock,

@@ -9,6 +9,7 @@ use news_room::Room;
 use room_lock::{Pass, Shared};
 use server_doors::MemoryDoor;
 use server_roles::{Ending, first_role};
+use server_watch::Watch;
 use std::alloc::Global;
 use std::process::Abort;
 use std::sync::Wait;
@@ -26,6 +27,7 @@ struct End {
 fn serve<R: Wait>(
     rt: &R,
     routes: &Routes,
+    watch: &Watch,
     shared: &Shared<Room<MemoryKeeper>>,
     pass: Pass,
     clock: MemoryClock,
@@ -34,7 +36,7 @@ fn serve<R: Wait>(
     requires { lock_of pass ≡ id_of shared.now }
     ensures { lock_of result.1 ≡ lock_of pass }
 {
-    first_role(rt, routes, shared, pass, clock, door)
+    first_role(rt, routes, watch, shared, pass, clock, door)
 }
 
 /// What it comes to over a door that gives one connection, with this input.
@@ -46,7 +48,8 @@ fn end_of(rt: &(impl Abort + Wait), alloc: Global, input: &[u8]) -> Result<End, 
     let door = MemoryDoor::new(alloc, inputs, Vec::new(alloc));
     let clock = steady_clock(rt, alloc);
     let (shared, pass) = locked(rt, alloc, empty_room(rt, alloc));
-    let (ending, pass, door) = serve(rt, &routes, &shared, pass, clock, door);
+    let watch = Watch::new(alloc);
+    let (ending, pass, door) = serve(rt, &routes, &watch, &shared, pass, clock, door);
     Ok(End {
         ending,
         given_back: door.returned().len(),

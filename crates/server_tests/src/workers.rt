@@ -17,6 +17,7 @@ use news_room::{Room, Ticked};
 use news_types::Moment;
 use publish_workers::Worked;
 use room_lock::{Pass, Shared, Work};
+use server_watch::Watch;
 use shared_workers::{Tally, WorkerTurn, worker_loop, worker_turn};
 use std::alloc::Global;
 use std::process::Abort;
@@ -101,6 +102,7 @@ fn halt_behind<R: Wait>(
 /// Works until the halt, and gives the link back.
 fn work<R: Wait>(
     rt: &R,
+    watch: &Watch,
     shared: &Shared<Room<MemoryKeeper>>,
     pass: Pass,
     mut clock: MemoryClock,
@@ -109,13 +111,14 @@ fn work<R: Wait>(
     requires { lock_of pass ≡ id_of shared.now }
     ensures { lock_of result.0 ≡ lock_of pass }
 {
-    let (tally, pass) = worker_loop(rt, shared, pass, &mut clock, &mut link);
+    let (tally, pass) = worker_loop(rt, watch, shared, pass, &mut clock, &mut link);
     (pass, tally, link)
 }
 
 /// A worker in one thread, and in another the role that halts behind so many entries.
 fn beside<R: Threads + Wait + Sync>(
     rt: &R,
+    watch: &Watch,
     shared: &Shared<Room<MemoryKeeper>>,
     passes: (Pass, Pass),
     clock: MemoryClock,
@@ -130,7 +133,7 @@ fn beside<R: Threads + Wait + Sync>(
         || -> (Pass, Tally, MemoryLink<MemoryKeeper>)
             requires { IsSync R.row × (lock_of one ≡ id_of shared.now) }
             ensures { lock_of result.0 ≡ id_of shared.entry.now }
-        { work(rt, shared, one, clock, link) },
+        { work(rt, watch, shared, one, clock, link) },
         || -> Pass
             requires { IsSync R.row × (lock_of other ≡ id_of shared.now) }
             ensures { lock_of result ≡ id_of shared.entry.now }
@@ -167,7 +170,8 @@ fn a_worker_ends_at_a_halt_of_another_thread(rt: HostRuntime) {
     };
     let clock = clock_of(&rt, alloc, 1000, 1060);
     let link = link_to(&rt, alloc, "alpha", &[1]);
-    let (pass, tally, link) = beside(&rt, &shared, passes, clock, link);
+    let watch = Watch::new(alloc);
+    let (pass, tally, link) = beside(&rt, &watch, &shared, passes, clock, link);
     assert_eq!(rt;
         tally,
         Tally {

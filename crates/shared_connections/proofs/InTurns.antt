@@ -35,9 +35,9 @@ module _ {K A : Type 0} (keeper : KeeperMeaning K) (shared_of : A → Shared (Ro
   abbrev WentFrom : Shared (Room K) → A → A → List Answered → Type 0
   WentFrom shared old new answered = Went answered_calls answered_holds (Stands keeper (start_of shared)) (front_in (pass_of old)) (calls_in (pass_of old)) (front_in (pass_of new)) (calls_in (pass_of new)) answered
 
-  went_first : (old new : A) (x : Exchange) (t : TurnOf old x.reading x.request x.answer new) → WentFrom (shared_of old) old new (record { exchange = x; call = t.call } ∷ [])
+  went_first : (old new : A) (x : Exchange) (t : TurnOf old x.reading x.request x.answer new) → WentFrom (shared_of old) old new (record { exchange = x; call = t.call; counts = t.counts } ∷ [])
   went_first old new x t =
-      went_turn answered_calls answered_holds (Stands keeper (start_of (shared_of old))) (front_in (pass_of old)) (calls_in (pass_of old)) (front_in (pass_of new)) (calls_in (pass_of new)) t.call (record { exchange = x; call = t.call }) refl t.turn
+      went_turn answered_calls answered_holds (Stands keeper (start_of (shared_of old))) (front_in (pass_of old)) (calls_in (pass_of old)) (front_in (pass_of new)) (calls_in (pass_of new)) t.call (record { exchange = x; call = t.call; counts = t.counts }) refl t.turn
       (λ b stands. ((found_by t.call b (front_in (pass_of new)), left_by t.call b (front_in (pass_of new))), refl, t.did b stands))
 
   -- the answered requests of a connection
@@ -58,10 +58,10 @@ module _ {K A : Type 0} (keeper : KeeperMeaning K) (shared_of : A → Shared (Ro
       let rest : AnsweredAs mid new xs = answered_as mid new xs t.2 in
       let later : WentFrom (shared_of old) mid new rest.answered = subst (λ (s : Shared (Room K)). WentFrom s mid new rest.answered) turn.same rest.went in
       record {
-        answered = record { exchange = x; call = turn.call } ∷ rest.answered;
+        answered = record { exchange = x; call = turn.call; counts = turn.counts } ∷ rest.answered;
         same = ap (λ (ys : List Exchange). x ∷ ys) rest.same;
         went = went_on answered_calls answered_holds (Stands keeper (start_of (shared_of old))) (front_in (pass_of old)) (calls_in (pass_of old)) (front_in (pass_of mid)) (calls_in (pass_of mid)) (front_in (pass_of new)) (calls_in (pass_of new))
-            (record { exchange = x; call = turn.call } ∷ []) rest.answered (went_first old mid x turn) later;
+            (record { exchange = x; call = turn.call; counts = turn.counts } ∷ []) rest.answered (went_first old mid x turn) later;
       }
 
   -- ---- what the connection came to

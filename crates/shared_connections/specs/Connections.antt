@@ -8,16 +8,18 @@ use Rattle.news_io.specs.Clock.{ClockMeaning, Gave}
 use Rattle.room_lock.specs.declared.view.Call.{Call}
 use Rattle.room_lock.specs.Passes.{At}
 use Rattle.room_lock.specs.Going.{Went}
+use Rattle.server_counts.specs.Tally.{Tally}
 use Rattle.http_wire.specs.Requests.{Begins}
 use Rattle.feed_http.specs.declared.ended.Ended.{Ended}
 use Rattle.feed_http.specs.Exchanges.{Exchange, requests, readings, responses}
 use Rattle.feed_http.specs.Served.{IsEnd, IsWritten}
 use Rattle.shared_connections.specs.Turns.{IsAnsweredIn}
 
--- a request with its answer, and the call in which it was answered
+-- a request with its answer, the call in which it was answered, and what was counted before it
 pub record Answered : Type 0 where
   pub exchange : Exchange
   pub call : Call
+  pub counts : Tally
 
 abbrev pub exchange_of : Answered → Exchange
 exchange_of a = a.exchange
@@ -31,7 +33,7 @@ answered_calls a = a.call ∷ []
 
 -- which was the request's turn, at the reading that was taken for it
 abbrev pub answered_holds : Answered → List (At × At) → Type 0
-answered_holds a turns = (t : At × At) × (turns ≡ t ∷ []) × IsAnsweredIn t.0 t.1 a.exchange.request a.exchange.reading a.exchange.answer
+answered_holds a turns = (t : At × At) × (turns ≡ t ∷ []) × IsAnsweredIn t.0 t.1 a.exchange.request a.exchange.reading a.counts a.exchange.answer
 
 -- The answered requests are the first of the input, each answered in a turn of its own, at the list that the turn found; their responses were
 -- written, and then the text of the ending.

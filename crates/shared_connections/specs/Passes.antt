@@ -11,6 +11,7 @@ use Rattle.room_lock.specs.Passes.{IsTurn, found_by, left_by}
 use Rattle.news_room.specs.Stands.{Stands}
 use Rattle.news_room.specs.declared.room.Room.{Room}
 use Rattle.http_wire.specs.declared.request.HttpRequest.{HttpRequest}
+use Rattle.server_counts.specs.Tally.{Tally}
 use Rattle.feed_http.specs.declared.answers.HttpAnswer.{HttpAnswer}
 use Rattle.shared_connections.specs.Turns.{IsAnsweredIn}
 
@@ -28,9 +29,10 @@ abbrev pub HasPass : {T : Type 0} → Shared T → Option Pass → Type 0
 HasPass shared None = ⊥
 HasPass shared (Some pass) = lock_of pass ≡ id_of shared
 
--- one call more of the same lock, in which the request is answered
+-- one call more of the same lock, in which the request is answered, where this was counted before it
 pub record TakesTurn {K : Type 0} (keeper : KeeperMeaning K) (shared shared' : Shared (Room K)) (pass pass' : Option Pass) (now : ℕ) (request : HttpRequest) (answer : HttpAnswer) : Type 0 where
   pub same : shared' ≡ shared
   pub call : Call
   pub turn : IsTurn (front_in pass) (calls_in pass) (front_in pass') (calls_in pass') call
-  pub did : (b : Book) → Stands keeper (start_of shared) b → IsAnsweredIn (found_by call b (front_in pass')) (left_by call b (front_in pass')) request now answer
+  pub counts : Tally
+  pub did : (b : Book) → Stands keeper (start_of shared) b → IsAnsweredIn (found_by call b (front_in pass')) (left_by call b (front_in pass')) request now counts answer

@@ -1,5 +1,5 @@
 -- What a request's turn makes of a list, and the turn as events of the world.
-use Rattle.std.specs.Prelude.{◌≡◌, ◌⊎◌, ℕ, List, [], ◌++◌}
+use Rattle.std.specs.Prelude.{◌≡◌, ◌⊎◌, ℕ, List, [], ◌++◌, Option, Some, None}
 use Rattle.news_types.specs.declared.entry.Entry.{Entry}
 use Rattle.news_types.specs.declared.query.Query.{Query}
 use Rattle.news_types.specs.Names.{Bytes}
@@ -10,15 +10,18 @@ use Rattle.news_types.specs.Server.{Server, called, call_answer}
 use Rattle.feed_frames.specs.Writer.{the_writer}
 use Rattle.room_lock.specs.Passes.{At}
 use Rattle.news_room.specs.Beside.{Beside, beside}
+use Rattle.server_counts.specs.Tally.{Tally, nothing}
 use Rattle.http_wire.specs.declared.request.HttpRequest.{HttpRequest}
 use Rattle.desk_routes.specs.declared.ask.HttpAsk.{HttpAsk}
 use Rattle.desk_routes.specs.declared.ask.HttpAsk.TheVariants as ask
 use Rattle.desk_routes.specs.declared.ask.Asking.{Asking}
 use Rattle.desk_routes.specs.declared.response.Response.{Response}
+use Rattle.desk_routes.specs.declared.response.Notice.TheVariants.{NoMemory}
+use Rattle.desk_routes.specs.Responses.{notice_response}
 use Rattle.package_rules.specs.Composed.{Composed}
 use Rattle.package_rules.specs.Publishing.{flash_of}
 use Rattle.feed_http.specs.declared.answers.HttpAnswer.{HttpAnswer}
-use Rattle.feed_http.specs.Outcome.{search_response, contents_response, package_of, response_to, http, stop_behind}
+use Rattle.feed_http.specs.Outcome.{search_response, contents_response, question_response, package_of, response_to, http, stop_behind, Seen}
 use Rattle.feed_http.specs.Turn.{IsTold, Comes, IsRead, TellsBehind}
 
 -- ---- the events of a turn
@@ -48,7 +51,7 @@ pub record TicksAndAsksList (b : Book) (more : List Entry) (question : Query) (n
   pub event : IsListEvent b more Ticked now answer
   pub asks : AsksListBehind (onto more b) question now answer response
 
--- a tick, and then what is told of the list: a search of it, or what a publication holds
+-- a tick, and then what is told of the list: a search of it, what a publication holds, or what a desk asks
 pub record TicksAndTellsList (b : Book) (more : List Entry) (tell : History → Response) (now : ℕ) (response : Response) : Type 0 where
   pub answer : Answer
   pub event : IsListEvent b more Ticked now answer
@@ -86,8 +89,9 @@ AskListEvents b more (ask.Ingest provider incoming) now response = CallsList b m
 AskListEvents b more (ask.Archive page query) now response = TicksAndTellsList b more (search_response page query) now response
 AskListEvents b more (ask.Package caller number described) now response = PackageListEvents b more caller number (package_of described) now response
 AskListEvents b more (ask.Contents publication) now response = TicksAndTellsList b more (contents_response b.store publication) now response
+AskListEvents b more (ask.Desk question) now response = TicksAndTellsList b more (question_response question) now response
 
--- the events of what the request asks, or nothing was asked
+-- the events of what the request asks, or nothing was asked, as by one for the metrics
 abbrev pub RequestListEvents : Book → List Entry → HttpRequest → ℕ → Response → Type 0
 RequestListEvents b more request now response = (more ≡ []) ⊎ ((a : Asking) × IsRead request a × AskListEvents b more a.ask now response)
 
@@ -97,12 +101,26 @@ RequestListEvents b more request now response = (more ≡ []) ⊎ ((a : Asking) 
 abbrev pub of_turn : At → At → Beside
 of_turn before after = beside before.faults before.used after.faults after.used
 
--- What a request is answered in a turn, at a reading of the clock, by the list that the turn found: an outcome of the request came, beside the
--- turn's own numbers, its entries are the turn's, and these were its events. The answer has the stop that the turn kept.
-pub record IsAnsweredIn (before after : At) (request : HttpRequest) (now : ℕ) (answer : HttpAnswer) : Type 0 where
+-- what was counted, as far as it is at hand: without memory for it no answer tells of it
+abbrev pub at_hand : Option Tally → Tally
+at_hand (Some counts) = counts
+at_hand None = nothing
+
+-- there was no memory, and no stop was kept
+abbrev pub no_memory_answer : HttpAnswer
+no_memory_answer = record { response = notice_response NoMemory; stop = None }
+
+-- what stands beside the list that the turn found, where this was counted
+abbrev pub seen_by : At → Tally → Seen
+seen_by before counts = record { size = before.used; counts = counts }
+
+-- What a request is answered in a turn, at a reading of the clock, by the list that the turn found and by what was counted before it: an
+-- outcome of the request came, beside the turn's own numbers, its entries are the turn's, and these were its events. The answer has the
+-- stop that the turn kept.
+pub record IsAnsweredIn (before after : At) (request : HttpRequest) (now : ℕ) (counts : Tally) (answer : HttpAnswer) : Type 0 where
   -- the entries that the turn kept, oldest first
   pub more : List Entry
   pub book : after.book ≡ onto more before.book
-  pub came : Comes (of_turn before after) (http before.book.store before.book.list request now) more answer.response
+  pub came : Comes (of_turn before after) (http before.book.store before.book.list request now (seen_by before counts)) more answer.response
   pub events : RequestListEvents before.book more request now answer.response
   pub stop : answer.stop ≡ stop_behind (last_stop before.book.list) (last_stop after.book.list)

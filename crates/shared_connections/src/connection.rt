@@ -6,11 +6,13 @@ ghost use Rattle.feed_http.specs.Served.{Causes};
 ghost use Rattle.shared_connections.specs.Connections.{ServedInTurns};
 
 use crate::turns::Turns;
+use crate::watching::watch_end;
 use desk_routes::Routes;
 use feed_http::{Ended, serve};
 use news_io::{Clock, Keeper, Sink, Source};
 use news_room::Room;
 use room_lock::{Pass, Shared};
+use server_watch::Watch;
 use std::sync::Wait;
 
 /// Answers the requests of a connection, in order, each in one turn of the room's lock. Each answer has passed on before the
@@ -20,9 +22,13 @@ use std::sync::Wait;
 /// and behind them the answer of what is no request; or a beginning of that where the sink failed. A stop that a turn kept
 /// ends the connection before all else, with its place in the list. The returned pass has one call more for each answered
 /// request.
+///
+/// In the watch it counts the answers, the faults of the log that they tell, and the items of providers. Where there is no memory
+/// for what was counted before a turn, nothing is asked in it, and it is answered as where there is no memory.
 pub fn serve_connection<K: Keeper + Drop, C: Clock, S: Source, O: Sink, R: Wait>(
     rt: &R,
     routes: &Routes,
+    watch: &Watch,
     shared: &Shared<Room<K>>,
     pass: Pass,
     clock: &mut C,
@@ -36,10 +42,12 @@ pub fn serve_connection<K: Keeper + Drop, C: Clock, S: Source, O: Sink, R: Wait>
 {
     let mut turns = Turns {
         rt,
+        watch,
         shared,
         pass: Some(pass),
     };
     let ended = serve(routes, &mut turns, clock, source, sink);
     let Turns { pass, .. } = turns;
+    watch_end(rt, watch, ended);
     (ended, pass.unwrap())
 }

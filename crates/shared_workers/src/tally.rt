@@ -12,6 +12,8 @@ use news_io::{Clock, Keeper, Link};
 use news_room::Room;
 use publish_workers::Worked;
 use room_lock::{Pass, Shared};
+use server_counts::Outcome;
+use server_watch::Watch;
 use std::sync::Wait;
 
 /// What the rounds of a worker came to. A count of 2^64 - 1 stays there.
@@ -25,9 +27,11 @@ pub struct Tally {
 
 /// Rounds of a worker over a link, until one finds a stop or a halt behind the entries with which the lock was made.
 ///
-/// The worker rests behind each round but one that delivered a frame. What fails is counted, and tried again.
+/// The worker rests behind each round but one that delivered a frame. What fails is counted, and tried again. In the watch
+/// it counts the attempts of its rounds and the faults of the log that they met.
 pub fn worker_loop<K: Keeper + Drop, C: Clock, L: Link, R: Wait>(
     rt: &R,
+    watch: &Watch,
     shared: &Shared<Room<K>>,
     pass: Pass,
     clock: &mut C,
@@ -53,11 +57,25 @@ pub fn worker_loop<K: Keeper + Drop, C: Clock, L: Link, R: Wait>(
         let (answered, next) = worker_turn(rt, shared, pass, clock, link);
         match answered {
             WorkerTurn::Stopping { .. } => return (tally, next),
-            WorkerTurn::Worked(worked) => tally = go_on(clock, tally, worked),
+            WorkerTurn::Worked(worked) => {
+                watch_turn(rt, watch, &worked);
+                tally = go_on(clock, tally, worked);
+            }
         }
         pass = next;
     }
     unreachable!()
+}
+
+/// Counts in the watch the attempt that a turn came to the end of, by its outcome, or the fault of the log.
+fn watch_turn(rt: &impl Wait, watch: &Watch, worked: &Worked) {
+    match worked {
+        Worked::Delivered { .. } => watch.count_attempt(rt, Outcome::Delivered),
+        Worked::LinkFault { .. } => watch.count_attempt(rt, Outcome::LinkFault),
+        Worked::NoReceipt { .. } => watch.count_attempt(rt, Outcome::NoReceipt),
+        Worked::StoreFault => watch.count_log_fault(rt),
+        Worked::Idle { .. } | Worked::Full { .. } | Worked::Memory => {}
+    }
 }
 
 /// Counts a turn, and rests behind it unless it delivered a frame.

@@ -23,3 +23,4 @@ pub mod Over
 pub mod LastOf
 pub mod Holding
 pub mod Newest
+pub mod Viewed

@@ -9,3 +9,4 @@ pub mod Reports
 pub mod Ingests
 pub mod Issued
 pub mod Holding
+pub mod Views

@@ -17,6 +17,7 @@ mod report;
 mod routed;
 mod spans;
 mod stories;
+mod views;
 mod withdraw;
 
 pub use ingest::Effect;

@@ -71,6 +71,7 @@ asked_quiet (asked.Request caller number command) at fate = (tt, tt)
 asked_quiet (asked.Query query) at fate = question_quiet query at fate
 asked_quiet (asked.Receipt subscriber n) at fate = (tt, tt)
 asked_quiet (asked.Archive page query) at fate = (tt, tt)
+asked_quiet (asked.Desk question) at fate = (tt, tt)
 
 read_quiet : (r : Result Asked LineProperty) (at : ℕ) (fate : Fate) → Quiet (events_if r at fate)
 read_quiet (Ok what) at fate = asked_quiet what at fate

@@ -1,5 +1,5 @@
 -- The members of a JSON object, put in one after another: they stand in byte order of their keys.
-use Rattle.std.specs.Prelude.{ℕ, List, [], ◌∷◌, codes}
+use Rattle.std.specs.Prelude.{ℕ, Bool, List, [], ◌∷◌, codes}
 use Prim.Native.String.{String}
 use Rattle.serde_json.specs.Data as json
 use Rattle.serde_json.specs.Data.{Items, no_items, item, Members, no_members, put}
@@ -15,6 +15,12 @@ text key bytes members = put (codes key) (json.string bytes) members
 
 abbrev pub number : String → ℕ → Members → Members
 number key n members = put (codes key) (json.number (json.unsigned n)) members
+
+abbrev pub flag : String → Bool → Members → Members
+flag key b members = put (codes key) (json.boolean b) members
+
+abbrev pub null : String → Members → Members
+null key members = put (codes key) json.null members
 
 abbrev pub inner : String → Members → Members → Members
 inner key inside members = put (codes key) (json.object inside) members

@@ -56,6 +56,20 @@ impl Object {
         self.with(key, Value::from(n))
     }
 
+    /// The object with a flag more.
+    pub fn flag(self, key: &str, flag: bool) -> Result<Object, AllocError>
+        ensures { IfOk result (λ told. seen told ≡ put key.now (json.boolean flag) (seen self)) }
+    {
+        self.with(key, Value::from(flag))
+    }
+
+    /// The object with a null more.
+    pub fn null(self, key: &str) -> Result<Object, AllocError>
+        ensures { IfOk result (λ told. seen told ≡ put key.now json.null (seen self)) }
+    {
+        self.with(key, Value::Null)
+    }
+
     /// The object with an object more.
     pub fn inner(self, key: &str, inside: Object) -> Result<Object, AllocError>
         ensures { IfOk result (λ told. seen told ≡ put key.now (json.object (seen inside)) (seen self)) }

@@ -226,6 +226,10 @@ fn act_of(asked: Asked) -> Result<Act, Fail> {
             drop(query);
             Err(Fail::new("no request"))
         }
+        Asked::Desk(question) => {
+            drop(question);
+            Err(Fail::new("no request"))
+        }
     }
 }
 

@@ -55,3 +55,9 @@ answer_contents-requires g c = c.requires.stands
 
 pub returns-in-Contents : goal.returns-in-Contents
 returns-in-Contents g c = asked_as g.K.Keeper.keeper c.args.room.now c.answer_contents.new.newsroom c.args.ask (ask.Contents c.in-Contents.publication) c.args.now c.answer_contents.result c.in-Contents.is c.answer_contents.ensures
+
+pub answer_desk_question-requires : goal.answer_desk_question-requires
+answer_desk_question-requires g c = c.requires.stands
+
+pub returns-in-Desk : goal.returns-in-Desk
+returns-in-Desk g c = asked_as g.K.Keeper.keeper c.args.room.now c.answer_desk_question.new.desks c.args.ask (ask.Desk c.in-Desk.question) c.args.now c.answer_desk_question.result c.in-Desk.is c.answer_desk_question.ensures

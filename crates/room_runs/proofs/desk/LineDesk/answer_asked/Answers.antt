@@ -25,3 +25,8 @@ pub returns-in-Archive-clause-step : goal.returns-in-Archive-clause-step
 returns-in-Archive-clause-step g c s h stands =
     subst (λ (a : Asked). IsStep (of_asked s.before) (life g.K.Keeper.keeper g.C.Clock.clock line_hand s) c.args.self.now c.search.new.self h a c.search.result) (sym c.in-Archive.is)
     (c.search.ensures.step s h stands)
+
+pub returns-in-Desk-clause-step : goal.returns-in-Desk-clause-step
+returns-in-Desk-clause-step g c s h stands =
+    subst (λ (a : Asked). IsStep (of_asked s.before) (life g.K.Keeper.keeper g.C.Clock.clock line_hand s) c.args.self.now c.ask_desk.new.self h a c.ask_desk.result) (sym c.in-Desk.is)
+    (c.ask_desk.ensures.step s h stands)

@@ -1,0 +1,4 @@
+pub mod Listed
+pub mod Wanted
+pub mod Paged
+pub mod Reaching

@@ -1,0 +1,3 @@
+pub mod Items
+pub mod Reach
+pub mod Told

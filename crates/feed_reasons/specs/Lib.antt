@@ -1,0 +1,4 @@
+pub mod Verdicts
+pub mod Courses
+pub mod Reasons
+pub mod Laws

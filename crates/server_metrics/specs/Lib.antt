@@ -1,0 +1,9 @@
+pub mod Families
+pub mod Text
+pub mod Gauges
+pub mod Feeds
+pub mod Since
+pub mod Written
+pub mod Measured
+pub mod Metrics
+pub mod Rows
