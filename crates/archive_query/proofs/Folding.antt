@@ -1,11 +1,9 @@
 -- Texts without their case.
-use Rattle.std.proofs.Common.{◌≡◌, ◌∙◌, inl, inr, ◌++◌, ◌<◌, ◌≤◌, ◌+◌, ◌-◌, ℕ, zero, suc, List, [], ◌∷◌, map, length, take, drop, get_or, slice_index, All, IsAscii, IsUtf8, chars, encode_utf8, encode_utf8_all, refl, sym, ap, ap₂, subst, suc-le-suc, zero-le, arith, append-nil, append_assoc, length-take}
-use Rattle.std.specs.List.{between}
+use Rattle.std.proofs.Common.{◌≡◌, ◌∙◌, ◌++◌, ◌<◌, ◌≤◌, ◌+◌, ℕ, zero, suc, List, [], ◌∷◌, map, length, take, drop, get_or, slice_index, All, IsAscii, IsUtf8, chars, encode_utf8, encode_utf8_all, refl, sym, ap, ap₂, subst, suc-le-suc, zero-le, arith, append-nil, append_assoc, length-take}
 use Rattle.std.specs.Str.{IsCharBoundary}
 use Rattle.std.proofs.Math.Numerals.{add-one}
-use Rattle.std.proofs.lemmas.Bool.{cases_lt}
 use Rattle.std.proofs.lemmas.Bool.Decides.{nat_tests}
-use Rattle.std.proofs.lemmas.List.{take-append-drop, take_more, get_or-take, get_or-drop, nil_from_length}
+use Rattle.std.proofs.lemmas.List.{take-append-drop, take_more, get_or-take, nil_from_length}
 use Rattle.std.proofs.lemmas.Str.{chars-nil, chars-IsAscii, chars-append, chars_past_char, encode_ascii, encodes-append, IsUtf8-from_ascii, IsCharBoundary-start, IsCharBoundary-after_ascii}
 use Rattle.std.proofs.lemmas.Str.Ascii.{All-from_ascii, IsAscii-from_reads}
 use Rattle.std.specs.Char.{to_ascii_lowercase}
@@ -55,18 +53,6 @@ front_folded bs n fits small =
     let ascii = front_ascii bs n fits small in
     ap folded (sym (take-append-drop n bs)) ∙ folded_append (take n bs) (drop n bs) (IsUtf8-from_ascii (take n bs) ascii)
     ∙ ap (λ (l : Bytes). l ++ folded (drop n bs)) (sym (lower_folded (take n bs) ascii))
-
--- more ASCII
-pub ascii_goes_on : (bs : Bytes) (at more : ℕ) → at + more ≤ length bs → ((k : ℕ) → k < at → slice_index bs k < 128) → IsAscii (between at (at + more) bs)
-    → (k : ℕ) → k < at + more → slice_index bs k < 128
-ascii_goes_on bs at more fits small here k below =
-    elim (cases_lt k at) [
-      | inl before ↦ small k before
-      | inr behind ↦
-          let moved : at + (k - at) ≡ k = omega arith in
-          let inside : k - at < at + more - at = omega arith in
-          subst (λ (b : ℕ). b < 128) (get_or-take (at + more - at) (drop at bs) (k - at) 0 inside ∙ get_or-drop at bs (k - at) 0 ∙ ap (λ (i : ℕ). get_or bs i 0) moved) (here (k - at))
-    ]
 
 -- what stands there after the ASCII and after what is behind it
 pub behind_front : (bs front rest was middle now more : Bytes) (n : ℕ) → n ≤ length bs → ((k : ℕ) → k < n → slice_index bs k < 128) → front ≡ take n bs → rest ≡ drop n bs

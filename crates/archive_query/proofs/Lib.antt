@@ -8,3 +8,6 @@ pub mod Verdicts
 pub mod Joining
 pub mod Once
 pub mod Folding
+pub mod Lanes
+pub mod Letters
+pub mod Mending

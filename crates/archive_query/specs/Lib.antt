@@ -1,6 +1,7 @@
 pub mod Words
 pub mod Query
 pub mod Folds
+pub mod Near
 pub mod Sought
 pub mod Tokens
 pub mod Grammar

@@ -5,6 +5,7 @@ mod ask;
 mod folds;
 mod holds;
 mod laws;
+mod near;
 mod parsing;
 mod reader;
 mod subject;
