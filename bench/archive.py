@@ -16,7 +16,7 @@ import tempfile
 import time
 
 sys.dont_write_bytecode = True
-from ports import free_port  # noqa: E402
+from ports import free_port, listens  # noqa: E402
 
 COUNT, LENGTH, ROUNDS = 200_000, 1_950, 5
 TOP = os.path.dirname(os.path.dirname(os.path.abspath(__file__)))
@@ -72,14 +72,6 @@ def ask(server, port, query):
         least = min(least, processor_seconds(server) - worked)
         connection.close()
     return best, least, found["total"]
-
-
-def listens(port):
-    try:
-        http.client.HTTPConnection("127.0.0.1", port).connect()
-    except OSError:
-        return False
-    return True
 
 
 def main():

@@ -15,7 +15,7 @@ import tempfile
 import time
 
 sys.dont_write_bytecode = True
-from ports import free_port  # noqa: E402
+from ports import free_port, listens  # noqa: E402
 
 ITEMS, ROUNDS = 262_144, 5
 SUBSCRIBERS, PRODUCTS, CONDITIONS = 256, 1_023, 4_096
@@ -69,14 +69,6 @@ def ask(port, method, path, body=None, user="admin"):
 def best(port, path):
     asked = [ask(port, "GET", path) for _ in range(ROUNDS)]
     return 1000 * min(seconds for seconds, _ in asked), asked[0][1]
-
-
-def listens(port):
-    try:
-        http.client.HTTPConnection("127.0.0.1", port).connect()
-    except OSError:
-        return False
-    return True
 
 
 class Serving:

@@ -126,11 +126,14 @@ def queue(*rows):
     return told("queue", feeds=[dict(sorted(zip(names, row))) for row in rows])
 
 
+def whole(story):
+    """A story with all its properties."""
+    empty = {name: "" for name in ("slugline", "headline", "byline", "language", "category", "body", "copyright")}
+    return dict(sorted({"kind": "text", "urgency": 0, "html": False, **empty, **story}.items()))
+
+
 def item(state, story, version, number=1, **more):
-    whole = {"kind": "text", "urgency": 0, "html": False}
-    whole.update({name: "" for name in ("slugline", "headline", "byline", "language", "category", "body", "copyright")})
-    whole.update(story)
-    return told("item", item=number, state=state, story=dict(sorted(whole.items())), version=version, **more)
+    return told("item", item=number, state=state, story=whole(story), version=version, **more)
 
 
 DENIALS = (
@@ -170,10 +173,8 @@ def bad_query(at):
     return 400, keyed(answer="bad-query", at=at), JSON
 
 
-def publication(number, headline, body, release, kind="text"):
-    story = {"kind": kind, "urgency": 0, "html": False, "headline": headline, "body": body}
-    story.update({name: "" for name in ("slugline", "byline", "language", "category", "copyright")})
-    return told("publication", act="first", item=number, release=release, story=dict(sorted(story.items())), version=1)
+def publication(number, story, release):
+    return told("publication", act="first", item=number, release=release, story=whole(story), version=1)
 
 
 def contents(associations, *rows):
@@ -530,7 +531,7 @@ PACKAGES = Connection(
     get("/publications/02/contents", "admin", bare(400)),
     get("/publications/4294967296/contents", "admin", bare(400)),
     get("/publications/two/contents", "zoe", bare(400)),
-    get("/publications/2", "admin", publication(2, "Pack", "PACKAGE\nmain 1\n", 1003, "composite")),
+    get("/publications/2", "admin", publication(2, {"kind": "composite", "headline": "Pack", "body": "PACKAGE\nmain 1\n"}, 1003)),
     Ask("POST /publications/2/contents", "admin", bare(404)),
 )
 
@@ -958,7 +959,7 @@ DESKS = [
         "Closed",
         post("admin", 1, "add_subscriber", done(1), subscriber="alpha", format="ninjs", products=["all"]),
         post("admin", 2, "flash", done(2, 1, 1, 1001), story=SMOKE),
-        get("/publications/1", "admin", publication(1, "Fire", "Smoke.", 1001)),
+        get("/publications/1", "admin", publication(1, SMOKE, 1001)),
         get("/publications/2", "admin", no_publication(1)),
         get("/publications/0", "admin", no_publication(1)),
         get("/publications/one", "admin", bare(400)),

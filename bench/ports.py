@@ -1,4 +1,5 @@
 """Ports on loopback for the servers that are measured here."""
+import http.client
 import random
 import socket
 
@@ -12,3 +13,12 @@ def free_port():
             return port
         except OSError:
             pass
+
+
+def listens(port):
+    """Whether something takes connections at a port."""
+    try:
+        http.client.HTTPConnection("127.0.0.1", port).connect()
+    except OSError:
+        return False
+    return True
