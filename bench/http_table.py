@@ -854,6 +854,26 @@ def reached(subscriber, reason, had=False, **cause):
     return {"had": had, "reason": reason, "subscriber": subscriber, **cause}
 
 
+def things(of, *rows):
+    return told("things", of=of, rows=list(rows))
+
+
+def publications(*rows):
+    return told("publications", rows=list(rows))
+
+
+def published(number, kind, release, *due, version=1, stands=True):
+    return {"due": list(due), "kind": kind, "publication": number, "release": release, "stands": stands, "version": version}
+
+
+def sent(subscriber, release, k, acked):
+    return {"acked": acked, "course": "sent", "k": k, "release": release, "subscriber": subscriber}
+
+
+def unsent(subscriber, release, course):
+    return {"course": course, "release": release, "subscriber": subscriber}
+
+
 def no_publication(count):
     return 404, keyed(answer="no-publication", count=count), JSON
 
@@ -903,7 +923,11 @@ ALPHA_RECORD = request_record(1 + 1 + len("alpha") + 1 + 2)
 FIRE_RECORD = request_record(1 + 27 + len("Fire") + len("Smoke.") + 2)
 BETAS_RECEIPT = 5 + 8 + 1 + 1 + len("beta") + 4
 BUDGET = row(1, "draft", "Budget", desk="city", stage="working", slugline="plan", urgency=4)
+WIRED = row(2, "ingested", "Fire", embargo=0, status="usable")
 SMOKE = {"headline": "Fire", "body": "Smoke."}
+CITY = {"desk": "city", "members": ["admin"], "stages": ["incoming", "proof", "working"]}
+ALL = ["users", "desks", "filters", "subscribers", "ingest", "write", "publish", "kill", "unlock", "stop"]
+BY_NIGHT = {"days": ["sun", "mon"], "from": 0, "to": 21600, "zone": "+01:00", "fetch": {"desk": "city", "stage": "proof"}, "publish": True}
 
 DESKS = [
     Connection(
@@ -914,8 +938,8 @@ DESKS = [
         post("admin", 3, "create", done(3, 1), desk="city", story={"headline": "Budget", "slugline": "plan", "urgency": 4}),
         post("admin", 4, "add_provider", done(4), provider="wire"),
         ingest("wire", "admin", {"uri": "http://x.example/1", "type": "text", "headline": "Fire", "body_text": "Smoke."}, done(5, 2)),
-        get("/items/below/4294967295", "admin", items(row(2, "ingested", "Fire"), BUDGET)),
-        get("/items/below/3", "admin", items(row(2, "ingested", "Fire"), BUDGET)),
+        get("/items/below/4294967295", "admin", items(WIRED, BUDGET)),
+        get("/items/below/3", "admin", items(WIRED, BUDGET)),
         get("/items/below/2", "admin", items(BUDGET)),
         get("/items/below/1", "admin", items()),
         get("/items/below/0", "admin", items()),
@@ -953,6 +977,118 @@ DESKS = [
         get("/items/1/reach", "alpha", bare(403)),
         asked(1, None, bare(400), user=None),
         Ask("PUT /items/1/reach", "admin", bare(404), {}),
+    ),
+    Connection(
+        "the things that there are",
+        "Closed",
+        city(),
+        post("admin", 2, "add_stage", done(2), desk="city", stage="proof"),
+        post("admin", 3, "set_member", done(3), desk="city", user="admin", member=True),
+        get("/things/desks/first", "admin", things("desks", CITY)),
+        get("/things/desks/after/c", "admin", things("desks", CITY)),
+        get("/things/desks/after/city", "admin", things("desks")),
+        post("admin", 4, "add_user", done(4), user="ben", privileges=["kill", "write", "kill"]),
+        get("/things/users/first", "admin", things("users", {"privileges": ALL, "user": "admin"}, {"privileges": ["write", "kill"], "user": "ben"})),
+        get("/things/users/after/admin", "ben", things("users", {"privileges": ["write", "kill"], "user": "ben"})),
+        post("admin", 5, "add_condition", done(5), condition="fires", field="headline", op="in", values=["fire", "Feuer"]),
+        get("/things/conditions/first", "admin", things("conditions", {"condition": "fires", "field": "headline", "op": "in", "values": ["fire", "Feuer"]})),
+        post("admin", 6, "add_filter", done(6), filter="b-fires", statements=[{"conditions": ["fires"]}]),
+        post("admin", 7, "add_filter", done(7), filter="a-all", statements=[{"filters": ["b-fires"]}]),
+        post("admin", 8, "set_block", done(8), filter="b-fires", on=True),
+        get(
+            "/things/filters/first",
+            "admin",
+            things(
+                "filters",
+                {"age": 2, "block": False, "filter": "a-all", "statements": [{"conditions": [], "filters": ["b-fires"]}]},
+                {"age": 1, "block": True, "filter": "b-fires", "statements": [{"conditions": ["fires"], "filters": []}]},
+            ),
+        ),
+        post("admin", 9, "add_product", done(9), product="quick", how="blocking", filter="b-fires"),
+        get(
+            "/things/products/first",
+            "admin",
+            things(
+                "products",
+                {"filter": None, "how": "permitting", "product": "all"},
+                {"filter": "b-fires", "how": "blocking", "product": "quick"},
+            ),
+        ),
+        post("admin", 10, "add_subscriber", done(10), subscriber="beta", format="7901", products=["quick", "all"], lag=60),
+        get(
+            "/things/subscribers/first",
+            "admin",
+            things(
+                "subscribers",
+                {"active": True, "format": "7901", "lag": 60, "off": [], "products": ["quick", "all"], "subscriber": "beta"},
+            ),
+        ),
+        post("admin", 11, "add_scheme", done(11), scheme="night", rules=[BY_NIGHT]),
+        get(
+            "/things/schemes/first",
+            "admin",
+            things("schemes", {"rules": [{**BY_NIGHT, "days": ["mon", "sun"], "exit": False, "filter": None}], "scheme": "night"}),
+        ),
+        post("admin", 12, "add_provider", done(12), provider="wire", scheme="night"),
+        post("admin", 13, "add_provider", done(13), provider="none"),
+        get(
+            "/things/providers/first",
+            "admin",
+            things("providers", {"provider": "none", "scheme": None}, {"provider": "wire", "scheme": "night"}),
+        ),
+        get("/things/items/first", "admin", bare(400)),
+        get("/things/Users/first", "admin", bare(400)),
+        get("/things/users/after/Ana", "admin", bare(400)),
+        get("/things/users/first", "zoe", bare(403)),
+        get("/things/users/first", None, bare(400)),
+        get("/things/users", "admin", bare(404)),
+        Ask("POST /things/users/first", "admin", bare(404)),
+    ),
+    Connection(
+        "what became of what was published",
+        "Closed",
+        post("admin", 1, "add_subscriber", done(1), subscriber="beta", format="ninjs", products=["all"]),
+        post("admin", 2, "add_subscriber", done(2), subscriber="alpha", format="ninjs", products=["all"], lag=100),
+        post("admin", 3, "flash", done(3, 1, 1, 1002), story=SMOKE),
+        get(
+            "/items/1/publications/after/0",
+            "admin",
+            publications(published(1, "first", 1002, unsent("alpha", 1102, "waits"), sent("beta", 1002, 1, False))),
+        ),
+        receipt("beta", "beta", 1, done(4)),
+        post("admin", 4, "lock", done(5, 1), item=1, session="s"),
+        post("admin", 5, "kill", done(6, 1, 2, 1006), item=1, session="s", note="No fire."),
+        get(
+            "/items/1/publications/after/0",
+            "admin",
+            publications(
+                published(1, "first", 1002, unsent("alpha", 1102, "taken_back"), sent("beta", 1002, 1, True)),
+                published(2, "kill", 1006, sent("beta", 1006, 2, False), version=2),
+            ),
+        ),
+        get("/items/1/publications/after/1", "admin", publications(published(2, "kill", 1006, sent("beta", 1006, 2, False), version=2))),
+        get("/items/1/publications/after/2", "admin", publications()),
+        get("/items/2/publications/after/0", "admin", unknown("item")),
+        get("/items/0/publications/after/0", "admin", unknown("item")),
+        get("/items/1/publications/after/x", "admin", bare(400)),
+        get("/items/01/publications/after/0", "admin", bare(400)),
+        get("/items/1/publications/after/0", "zoe", bare(403)),
+        get("/items/1/publications/after/0", None, bare(400)),
+        get("/items/1/publications", "admin", bare(404)),
+        Ask("POST /items/1/publications/after/0", "admin", bare(404)),
+    ),
+    Connection(
+        "what was descheduled stands no more",
+        "Closed",
+        city(),
+        post("admin", 2, "set_member", done(2), desk="city", user="admin", member=True),
+        post("admin", 3, "add_subscriber", done(3), subscriber="beta", format="ninjs", products=["all"]),
+        post("admin", 4, "create", done(4, 1), desk="city", story={}),
+        post("admin", 5, "lock", done(5, 1), item=1, session="s"),
+        post("admin", 6, "publish", done(6, 1, 1, 2000), item=1, session="s", schedule=2000),
+        get("/items/1/publications/after/0", "admin", publications(published(1, "first", 2000, unsent("beta", 2000, "waits")))),
+        post("admin", 7, "deschedule", done(7, 1), item=1),
+        get("/items/1/publications/after/0", "admin", publications(published(1, "first", 2000, unsent("beta", 2000, "taken_back"), stands=False))),
     ),
     Connection(
         "a publication as it is",

@@ -80,9 +80,11 @@ def newsdesk(folder, words, text=""):
 class House:
     """A folder with a store, the receivers, the server and the gateway."""
 
+    setup, passwords, wrap, receivers = SETUP, PASSWORDS, WRAP, ("alpha", "beta")
+
     def __init__(self, folder):
         self.folder = folder
-        self.port, self.gate, *self.doors = free_ports(4)
+        self.port, self.gate, *self.doors = free_ports(2 + len(self.receivers))
         self.running = []
 
     def at(self, name):
@@ -94,22 +96,22 @@ class House:
         return process
 
     def make_store(self):
-        lines = "".join(json.dumps({"by": "admin", "number": number, **what}) + "\n" for number, what in enumerate(SETUP, 1))
+        lines = "".join(json.dumps({"by": "admin", "number": number, **what}) + "\n" for number, what in enumerate(self.setup, 1))
         expect("a new store", newsdesk(self.folder, ["init", "news", STORE]), (0, ""))
         status, answers = newsdesk(self.folder, ["batch", "news"], lines)
-        expect("its users and subscribers", (status, answers.count('"done"')), (0, len(SETUP)))
+        expect("its users and subscribers", (status, answers.count('"done"')), (0, len(self.setup)))
 
     def make_key(self):
         with open(self.at("key"), "w", encoding="ascii") as file:
             file.write(KEY + "\n")
 
     def start_receivers(self):
-        for name, door in zip(("alpha", "beta"), self.doors):
+        for name, door in zip(self.receivers, self.doors):
             self.start([sys.executable, os.path.join(os.path.dirname(HERE), "receiver.py"), name, self.at(name), str(door)])
             eventually(f"{name} listens", lambda: listens(door))
 
     def serve(self):
-        pairs = [word for name, door in zip(("alpha", "beta"), self.doors) for word in (name, f"127.0.0.1:{door}")]
+        pairs = [word for name, door in zip(self.receivers, self.doors) for word in (name, f"127.0.0.1:{door}")]
         self.server = self.start([NEWSDESK, "serve", "--key", "key", "news", f"127.0.0.1:{self.port}", "2", *pairs], stdout=subprocess.PIPE, text=True)
         eventually("the server listens", lambda: listens(self.port))
 
@@ -122,26 +124,27 @@ class House:
         words = ["openssl", "req", "-x509", "-newkey", "rsa:2048", "-nodes", "-days", "1", *subject, "-keyout", key, "-out", certificate]
         subprocess.run(words, check=True, stderr=subprocess.DEVNULL)
         with open(users, "w", encoding="utf-8") as file:
-            for name, password in PASSWORDS.items():
+            for name, password in self.passwords.items():
                 mark = subprocess.run(["openssl", "passwd", "-apr1", password], check=True, stdout=subprocess.PIPE, text=True).stdout
                 file.write(f"{name}:{mark}")
         with open(os.path.join(HERE, "newsdesk.conf"), encoding="utf-8") as file:
             site = file.read()
         site = site.replace("/etc/nginx/", self.folder + "/").replace("127.0.0.1:8090", f"127.0.0.1:{self.port}")
+        site = site.replace("/usr/local/share/newsdesk/", self.folder + "/")
         site = re.sub(r"\blisten 443\b", f"listen 127.0.0.1:{self.gate}", site)
         with open(self.at("newsdesk.conf"), "w", encoding="utf-8") as file:
             file.write(site)
         with open(self.at("nginx.conf"), "w", encoding="utf-8") as file:
-            file.write(WRAP.format(user=pwd.getpwuid(os.geteuid()).pw_name, folder=self.folder))
+            file.write(self.wrap.format(user=pwd.getpwuid(os.geteuid()).pw_name, folder=self.folder))
 
     def open_gateway(self):
         nginx = shutil.which("nginx", path=os.environ["PATH"] + ":/usr/sbin") or sys.exit("nginx is not there: not tried")
-        self.start([nginx, "-e", self.at("error.log"), "-p", self.folder, "-c", self.at("nginx.conf"), "-g", "daemon off;"])
+        self.nginx = self.start([nginx, "-e", self.at("error.log"), "-p", self.folder, "-c", self.at("nginx.conf"), "-g", "daemon off;"])
         eventually("the gateway listens", lambda: listens(self.gate))
 
     def curl(self, caller, path, *words, password=None, body=None):
         """The status and the body of a request through the gateway."""
-        who = ["-u", f"{caller}:{PASSWORDS[caller] if password is None else password}"] if caller else []
+        who = ["-u", f"{caller}:{self.passwords[caller] if password is None else password}"] if caller else []
         way = ["--cacert", self.at("newsdesk.crt"), "--resolve", f"news.example:{self.gate}:127.0.0.1", "--path-as-is", "--max-time", "60"]
         what = ["--data-binary", "@-"] if body is not None else []
         words = ["curl", "-q", "-s", "-w", "\n%{http_code}", *way, *who, *what, *words, f"https://news.example:{self.gate}{path}"]
@@ -215,6 +218,21 @@ def try_bodies(house):
         expect(f"the target {path}", house.curl("ana", path), (404, ""))
 
 
+def try_browsers(house):
+    """What a browser says of where a request comes from, and for whom: what a page from elsewhere made it ask is refused."""
+    one = {"number": 4, "do": "flash", "story": {"headline": "Never"}}
+    refused = [["-H", f"Sec-Fetch-Site: {word}"] for word in ("cross-site", "same-site", "other")]
+    refused += [["-H", f"Origin: {word}"] for word in ("https://other.example", "null", "https://news.example", f"http://news.example:{house.gate}")]
+    refused += [["-H", "Desk-User: zoe"], ["-H", "Desk-User: ana ana"]]
+    for words in refused:
+        expect(f"a request with {words[1]}", house.request("ana", one, *words)[0], 403)
+    expect("a question that another site made a browser ask", house.curl("ana", "/queue", "-H", "Sec-Fetch-Site: cross-site")[0], 403)
+    own = ["-H", f"Origin: https://news.example:{house.gate}", "-H", "Sec-Fetch-Site: same-origin", "-H", "Desk-User: ana"]
+    late = (409, '{"answer":"denied","denial":"OutOfTurn","expected":4,"number":1}')
+    expect("a request of the site's own page", house.request("ana", {"number": 9, "do": "stop"}, *own), late)
+    expect("a question by hand", house.curl("ana", "/queue", "-H", "Sec-Fetch-Site: none")[0], 200)
+
+
 def try_together(house):
     """Forty callers at once: each is served in its turn, and none waits for a connection that stays."""
     before = time.monotonic()
@@ -267,6 +285,7 @@ def main():
             house.open_gateway()
             try_callers(house)
             try_bodies(house)
+            try_browsers(house)
             took = try_together(house)
             try_feeds(house)
             # the users and subscribers, and for each story its entry, and two attempts and two receipts; then the stop
@@ -281,4 +300,5 @@ def main():
     print(f"{checks} checks passed; forty callers at once took {took:.1f} s")
 
 
-main()
+if __name__ == "__main__":
+    main()

@@ -9,7 +9,7 @@ use Rattle.news_types.specs.declared.words.Format.{Format}
 use Rattle.news_types.specs.declared.words.Format.TheVariants.{Ninjs, Text7901}
 use Rattle.news_types.specs.Names.{Bytes, same, is_name}
 use Rattle.command_words.specs.declared.words.Job.{Job}
-use Rattle.command_words.specs.declared.words.Job.TheVariants.{Init, Batch, Ingest, Import, Package, Feed, Queue, Archive, Contents, Drain, Receive, Ship, StandIn, Drill, Check, Pack}
+use Rattle.command_words.specs.declared.words.Job.TheVariants.{Init, Batch, Ingest, Import, Package, Feed, Queue, Archive, Contents, Audit, Ask, Why, Drain, Receive, Ship, StandIn, Drill, Check, Pack}
 use Rattle.command_words.specs.declared.options.Options.{Options}
 use Rattle.command_words.specs.declared.serving.Serving.{Serving}
 
@@ -58,6 +58,11 @@ number_of word = if is_decimal word && (nat_lt 0 (length word) && nat_lt (digits
 abbrev pub seed_of : Bytes → Option ℕ
 seed_of word = if is_decimal word && (nat_lt 0 (length word) && nat_lt (digits_value 10 word) 18446744073709551616) then Some (digits_value 10 word) else None
 
+-- of these numbers, one of entries: below 2^48
+abbrev pub place_of : Option ℕ → Option ℕ
+place_of (Some n) = if nat_lt n 281474976710656 then Some n else None
+place_of None = None
+
 -- of three words
 abbrev pub long_job : Bytes → Bytes → Option Job
 long_job verb word =
@@ -65,8 +70,10 @@ long_job verb word =
     else (if same verb (codes "receive") then option_map Receive (name_of word)
     else (if same verb (codes "import") then option_map Import (name_of word)
     else (if same verb (codes "contents") then option_map Contents (number_of word)
+    else (if same verb (codes "audit") then option_map Audit (place_of (seed_of word))
+    else (if same verb (codes "ask") then option_map Ask (place_of (seed_of word))
     else (if same verb (codes "stand-in") then option_map StandIn (parsed word)
-    else None))))
+    else None))))))
 
 -- to report a subscriber's feed behind its first entries, so many
 abbrev pub feed_of : Option Bytes → Option ℕ → Option Job
@@ -83,6 +90,11 @@ abbrev pub archive_of : Option ℕ → Bytes → Option Job
 archive_of (Some page) query = Some (Archive page query)
 archive_of None query = None
 
+-- to tell why a publication is due to a subscriber or not
+abbrev pub why_of : Option ℕ → Option Bytes → Option Job
+why_of (Some publication) (Some subscriber) = Some (Why publication subscriber)
+why_of publication subscriber = None
+
 -- to ship what a store holds to the standby of this name, which is at an address
 abbrev pub ship_of : Option Bytes → Bytes → Option Job
 ship_of (Some name) address = if is_option address then None else Some (Ship name)
@@ -95,8 +107,9 @@ wide_job verb first second =
     else (if same verb (codes "package") then package_of (name_of first) (seed_of second)
     else (if same verb (codes "feed") then feed_of (name_of first) (number_of second)
     else (if same verb (codes "archive") then archive_of (number_of first) second
+    else (if same verb (codes "why") then why_of (number_of first) (name_of second)
     else (if same verb (codes "ship") then ship_of (name_of first) second
-    else None))))
+    else None)))))
 
 -- one of these pairs has this name
 abbrev pub names : List Bytes → Bytes → Bool
@@ -130,9 +143,9 @@ job_by verb (first ∷ second ∷ []) = wide_job verb first second
 job_by verb words = None
 
 -- `init STORE UUID`, `batch STORE`, `ingest STORE FORMAT PROVIDER`, `import STORE CALLER`, `package STORE CALLER NUMBER`,
--- `feed STORE SUBSCRIBER AFTER`, `queue STORE`, `archive STORE PAGE QUERY`, `contents STORE PUBLICATION`, `drain STORE` with pairs of a NAME and an
--- ADDRESS, `receive STORE NAME`, `ship STORE NAME ADDRESS`, `stand-in STORE UUID`, `check STORE`, `pack STORE` and `drill N SEED`; a store
--- and an address are any words but an option
+-- `feed STORE SUBSCRIBER AFTER`, `queue STORE`, `archive STORE PAGE QUERY`, `contents STORE PUBLICATION`, `audit STORE AFTER`, `ask STORE ENTRIES`,
+-- `why STORE PUBLICATION SUBSCRIBER`, `drain STORE` with pairs of a NAME and an ADDRESS, `receive STORE NAME`, `ship STORE NAME ADDRESS`,
+-- `stand-in STORE UUID`, `check STORE`, `pack STORE` and `drill N SEED`; a store and an address are any words but an option
 abbrev pub job_of : List Bytes → Option Job
 job_of (verb ∷ first ∷ words) =
     if is_option first then None

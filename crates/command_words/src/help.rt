@@ -40,6 +40,18 @@ const CONTENTS: &str =
     "newsdesk contents STORE PUBLICATION     write what a package holds, level by level, and its associations
 ";
 
+const AUDIT: &str =
+    "newsdesk audit STORE AFTER              write a line for each entry of the list behind the first AFTER
+";
+
+const ASK: &str =
+    "newsdesk ask STORE ENTRIES              answer the questions of standard input at the list of the first ENTRIES entries
+";
+
+const WHY: &str =
+    "newsdesk why STORE PUBLICATION SUBSCRIBER    write why a publication is due to a subscriber or not, and what became of it
+";
+
 const DRAIN: &str =
     "newsdesk drain STORE NAME ADDRESS ..    send what is due to these receivers, each with its host and port, until nothing is
 ";
@@ -77,8 +89,8 @@ newsdesk COMMAND --help                 say the line of one command
 newsdesk --version                      say the version
 
 Options stand directly behind COMMAND: with --wait it waits for a STORE that another program has, with --beside check, archive,
-contents and ship read one that is being served, `ship --every SECONDS STORE ..` ships what is new each so many seconds until it is
-ended, and `serve --key FILE STORE ..` answers only who sends the first line of FILE as the header X-Key.
+contents, audit, ask, why and ship read one that is being served, `ship --every SECONDS STORE ..` ships what is new each so many
+seconds until it is ended, and `serve --key FILE STORE ..` answers only who sends the first line of FILE as the header X-Key.
 
 A line of `batch` is a request, as
   {\"by\":\"admin\",\"number\":1,\"do\":\"add_subscriber\",\"subscriber\":\"alpha\",\"format\":\"ninjs\",\"products\":[\"all\"]}
@@ -93,10 +105,10 @@ to the output too, as {\"status\":7} with the place of the damage.
 ";
 
 /// How the program is used, for `--help`: texts, to be written one behind the other. Each command has a line.
-pub fn help_texts() -> [&'static str; 19] {
+pub fn help_texts() -> [&'static str; 22] {
     [
-        HEAD, INIT, BATCH, INGEST, IMPORT, PACKAGE, FEED, QUEUE, ARCHIVE, CONTENTS, DRAIN, SERVE,
-        RECEIVE, SHIP, STAND_IN, CHECK, PACK, DRILL, TAIL,
+        HEAD, INIT, BATCH, INGEST, IMPORT, PACKAGE, FEED, QUEUE, ARCHIVE, CONTENTS, AUDIT, ASK,
+        WHY, DRAIN, SERVE, RECEIVE, SHIP, STAND_IN, CHECK, PACK, DRILL, TAIL,
     ]
 }
 
@@ -112,6 +124,9 @@ pub fn command_help(command: &str) -> Option<&'static str> {
         "queue" => Some(QUEUE),
         "archive" => Some(ARCHIVE),
         "contents" => Some(CONTENTS),
+        "audit" => Some(AUDIT),
+        "ask" => Some(ASK),
+        "why" => Some(WHY),
         "drain" => Some(DRAIN),
         "serve" => Some(SERVE),
         "receive" => Some(RECEIVE),

@@ -4,8 +4,8 @@ ghost use Rattle.std.specs.Char.{is_ascii_digit};
 ghost use Rattle.std.specs.List.{list_all};
 ghost use Rattle.std.specs.Option.{option_map};
 ghost use Rattle.uuid.specs.Text.{parsed};
-ghost use Rattle.command_words.specs.declared.words.Job.TheVariants.{Contents, Import, Init, Receive, StandIn};
-ghost use Rattle.command_words.specs.Words.{archive_of, drill_of, feed_of, format_of, ingest_of, job_of, name_of, number_of, package_of, seed_of, ship_of};
+ghost use Rattle.command_words.specs.declared.words.Job.TheVariants.{Ask, Audit, Contents, Import, Init, Receive, StandIn};
+ghost use Rattle.command_words.specs.Words.{archive_of, drill_of, feed_of, format_of, ingest_of, job_of, name_of, number_of, package_of, place_of, seed_of, ship_of, why_of};
 ghost use Rattle.command_words.specs.Words as spec;
 
 use crate::word::Word;
@@ -14,6 +14,9 @@ use uuid::Uuid;
 
 /// The most stories of a drill.
 const MOST_STORIES: u32 = 100_000;
+
+/// What the numbers of entries are below: 2^48.
+const PLACES: u64 = 281_474_976_710_656;
 
 /// What a command line asks for.
 #[derive(Drop)]
@@ -36,6 +39,12 @@ pub enum Job<'a> {
     Archive { page: u32, query: Word<'a> },
     /// To tell what the publication of this number holds.
     Contents(u32),
+    /// To write a line for each entry of the list behind its first ones, so many.
+    Audit(u64),
+    /// To answer the questions of the input at the first entries of the list, so many.
+    Ask(u64),
+    /// To tell why the publication of this number is due to this subscriber or not, and what became of it.
+    Why { publication: u32, subscriber: Name },
     /// To push what is due over the links to receivers.
     Drain,
     /// To take the frames of the input as the receiver of this name.
@@ -178,6 +187,12 @@ fn long_job<'a>(verb: &str, word: &str) -> Option<Job<'a>>
     if verb == "contents" {
         return contents_job(word);
     }
+    if verb == "audit" {
+        return audit_job(word);
+    }
+    if verb == "ask" {
+        return ask_job(word);
+    }
     if verb == "stand-in" {
         return stand_in_job(word);
     }
@@ -225,6 +240,20 @@ fn contents_job<'a>(publication: &str) -> Option<Job<'a>>
     Some(Job::Contents(read_number(publication)?))
 }
 
+/// To write the lines of the entries behind so many, if the word is a number of entries.
+fn audit_job<'a>(after: &str) -> Option<Job<'a>>
+    ensures { result ≡ option_map Audit (place_of (seed_of after.now)) }
+{
+    Some(Job::Audit(read_place(after)?))
+}
+
+/// To answer questions at the first entries, so many, if the word is a number of entries.
+fn ask_job<'a>(entries: &str) -> Option<Job<'a>>
+    ensures { result ≡ option_map Ask (place_of (seed_of entries.now)) }
+{
+    Some(Job::Ask(read_place(entries)?))
+}
+
 /// What this word, a store and two words more ask for.
 fn wide_job<'a>(verb: &str, first: &str, second: &'a Text) -> Option<Job<'a>>
     ensures { result ≡ spec.wide_job verb.now first.now second.now }
@@ -234,6 +263,7 @@ fn wide_job<'a>(verb: &str, first: &str, second: &'a Text) -> Option<Job<'a>>
         "package" => package_job(first, second.as_str()),
         "feed" => feed_job(first, second.as_str()),
         "archive" => archive_job(first, second),
+        "why" => why_job(first, second.as_str()),
         "ship" => ship_job(first, second.as_str()),
         _ => None,
     }
@@ -276,6 +306,16 @@ fn archive_job<'a>(page: &str, query: &'a Text) -> Option<Job<'a>>
     Some(Job::Archive {
         page: read_number(page)?,
         query: Word::of(query),
+    })
+}
+
+/// To tell why a publication is due to a subscriber or not, if they are a number and a name.
+fn why_job<'a>(publication: &str, subscriber: &str) -> Option<Job<'a>>
+    ensures { result ≡ why_of (number_of publication.now) (name_of subscriber.now) }
+{
+    Some(Job::Why {
+        publication: read_number(publication)?,
+        subscriber: Name::read(subscriber)?,
     })
 }
 
@@ -334,4 +374,15 @@ fn read_seed(word: &str) -> Option<u64>
         return None;
     }
     word.parse().ok()
+}
+
+/// How many entries the word asks for, if it is a number below 2^48.
+fn read_place(word: &str) -> Option<u64>
+    ensures { result ≡ place_of (seed_of word.now) }
+{
+    let place = read_seed(word)?;
+    if place >= PLACES {
+        return None;
+    }
+    Some(place)
 }

@@ -1,14 +1,15 @@
 -- Filters by their age.
-use Rattle.std.proofs.Common.{◌≡◌, ℕ, zero, suc, ◌<◌, ◌≤◌, Bool, true, false, ◌||◌, cond, List, [], ◌∷◌, ◌++◌, length, map, Option, Some, None, is_some, refl, sym, ◌∙◌, arith, length-append}
-use Rattle.std.proofs.lemmas.List.{length-map}
+use Rattle.std.proofs.Common.{◌≡◌, ℕ, zero, suc, ◌<◌, ◌≤◌, Bool, true, false, ◌||◌, cond, List, [], ◌∷◌, ◌++◌, length, map, Option, Some, None, is_some, refl, sym, ◌+◌, ◌∙◌, arith, length-append}
+use Rattle.std.proofs.lemmas.List.{length-map, map-append}
 use Rattle.std.proofs.lemmas.Bool.{false≢true}
 use Rattle.std.specs.List.{slice_get, list_any}
-use Rattle.std.specs.Option.{option_and_then, unwrap_or}
+use Rattle.std.specs.Option.{option_map, option_and_then, unwrap_or}
 use Rattle.std.proofs.lemmas.Option.{slice_get_past}
 use Rattle.news_types.proofs.Members.{same_is, same_self, some_is, none_some}
 use Rattle.news_types.specs.Names.{Bytes, same}
-use Rattle.news_types.specs.Filters.{Filter, has_filter, holds, matches_by}
-use Rattle.content_filters.specs.Kept.{oldest_first, age, AreApart, kept_of}
+use Rattle.news_types.specs.Filters.{Filter, has_filter, older, holds, matches_by}
+use Rattle.content_filters.specs.declared.table.KeptFilter.{KeptFilter}
+use Rattle.content_filters.specs.Kept.{oldest_first, filter_named, age, AreApart, kept_of}
 use Rattle.content_filters.specs.Keeps.{matches_of}
 
 pub get_front : {A : Type 0} (xs ys : List A) (k : ℕ) → k < length xs → slice_get (xs ++ ys) k ≡ slice_get xs k
@@ -51,6 +52,32 @@ matches_long true_of (f ∷ fs) = length-append (matches_of true_of fs) (matches
 -- a name of an older filter is no name of a newer one
 pub older_there : (f : Filter) (fs : List Filter) (name : Bytes) → has_filter f.name fs ≡ false → same f.name name ≡ true → has_filter name fs ≡ false
 older_there f fs name none is = rw (same_is f.name name is) at none
+
+-- the age of a filter is the number of those that are older
+pub counted : (fs : List Filter) (name : Bytes) → cond (has_filter name fs) (Some (length (older name fs) + 1)) None ≡ option_map (λ (n : ℕ). n + 1) (age fs name)
+counted [] name = refl
+counted (f ∷ fs) name =
+    elim (same f.name name) as (λ b. cond (b || has_filter name fs) (Some (length (cond b fs (older name fs)) + 1)) None ≡ option_map (λ (n : ℕ). n + 1) (cond b (Some (length fs)) (age fs name))) [
+      | true ↦ refl
+      | false ↦ counted fs name
+    ]
+
+-- what is kept at the age of a filter is the filter
+pub kept_at : (fs : List Filter) (name : Bytes) → option_and_then (λ place. slice_get (map kept_of (oldest_first fs)) place) (age fs name) ≡ option_map kept_of (filter_named name fs)
+kept_at [] name = refl
+kept_at (f ∷ fs) name =
+    let olds : List KeptFilter = map kept_of (oldest_first fs) in
+    elim (same f.name name) as (λ b. option_and_then (λ place. slice_get (map kept_of (oldest_first fs ++ f ∷ [])) place) (cond b (Some (length fs)) (age fs name)) ≡ option_map kept_of (cond b (Some f) (filter_named name fs))) [
+      | true ↦ rw (map-append kept_of (oldest_first fs) (f ∷ []), ← kept_long fs) (get_end olds (kept_of f))
+      | false ↦ rw (map-append kept_of (oldest_first fs) (f ∷ [])) (below (age fs name) (kept_of f) (λ p is. age_below fs name p is) (kept_at fs name))
+    ]
+  where
+    below : (o : Option ℕ) (more : KeptFilter) → ((p : ℕ) → o ≡ Some p → p < length fs) → option_and_then (λ place. slice_get (map kept_of (oldest_first fs)) place) o ≡ option_map kept_of (filter_named name fs)
+        → option_and_then (λ place. slice_get (map kept_of (oldest_first fs) ++ more ∷ []) place) o ≡ option_map kept_of (filter_named name fs)
+    below None more within is = is
+    below (Some p) more within is =
+        let lt : p < length (map kept_of (oldest_first fs)) = omega (arith, within p refl, kept_long fs) in
+        rw (get_front (map kept_of (oldest_first fs)) (more ∷ []) p lt) is
 
 -- what the list of verdicts has at the age of a filter
 pub at_age : (true_of : Bytes → Bool) (fs : List Filter) (name : Bytes) → unwrap_or (option_and_then (λ place. slice_get (matches_of true_of fs) place) (age fs name)) false ≡ matches_by true_of fs name

@@ -1,7 +1,8 @@
 -- The table behind a change.
-use Rattle.std.proofs.Common.{◌≡◌, ℕ, zero, suc, ◌+◌, ◌<◌, Bool, true, false, not, ◌&&◌, ◌||◌, cond, List, [], ◌∷◌, ◌++◌, length, map, set, get_or, Option, Some, None, refl, sym, ap, subst, ◌∙◌, arith}
+use Rattle.std.proofs.Common.{◌≡◌, ℕ, zero, suc, ◌+◌, ◌<◌, Bool, true, false, not, ◌&&◌, ◌||◌, cond, List, [], ◌∷◌, ◌++◌, length, map, set, get_or, Option, Some, None, nat_lt, refl, sym, ap, subst, ◌∙◌, arith}
 use Rattle.std.proofs.lemmas.List.{length-map, map-append}
 use Rattle.std.proofs.lemmas.Bool.{false≢true}
+use Rattle.std.proofs.lemmas.Bool.Decides.{nat_tests}
 use Rattle.std.specs.List.{slice_get, filter}
 use Rattle.std.specs.Option.{option_map, option_and_then}
 use Rattle.news_types.proofs.Members.{same_is, same_self, some_is, none_some}
@@ -14,7 +15,7 @@ use Rattle.news_types.specs.declared.entry.Act.{Act}
 use Rattle.news_types.specs.declared.entry.Act.TheVariants.{Request}
 use Rattle.news_types.specs.declared.command.Command.{Command}
 use Rattle.news_types.specs.declared.denial.Denial.{Denial}
-use Rattle.news_types.specs.declared.denial.Denial.TheVariants.{UnknownThing}
+use Rattle.news_types.specs.declared.denial.Denial.TheVariants.{UnknownThing, NameTaken, Limit}
 use Rattle.news_types.specs.declared.words.Thing.{Thing}
 use Rattle.news_types.specs.declared.words.Thing.TheVariants as thing
 use Rattle.news_types.specs.declared.command.Command.TheVariants.{AddFilter, SetFilter, SetBlock}
@@ -25,7 +26,7 @@ use Rattle.content_filters.specs.declared.table.KeptFilter.{KeptFilter}
 use Rattle.content_filters.specs.Kept.{condition_of, kept_of, oldest_first, age, AreApart, is_block}
 use Rattle.content_filters.specs.declared.table.Filters.{Filters}
 use Rattle.content_filters.specs.Keeps.{Keeps}
-use Rattle.content_filters.specs.Reasons.{filter_denial, KeepsFacts}
+use Rattle.content_filters.specs.Reasons.{filter_missing, is_filter_taken, filter_order, filter_operand, filter_limit, filter_denial, KeepsFacts}
 use Rattle.content_filters.proofs.Ages.{get_front, get_end, age_below, kept_long, older_there}
 
 same_flip : (a b : Bytes) → same a b ≡ same b a
@@ -256,6 +257,16 @@ there_only false what is = absurd (none_some (UnknownThing what) (sym is))
 module _ (found : Bytes → Option Condition) (count : ℕ) (fs : List Filter) (name : Bytes) (sts : List Statement) where
   pub new_allowed : filter_denial found count fs (AddFilter name sts) ≡ None → has_filter name fs ≡ false
   new_allowed is = not_true (has_filter name fs) (holds_unless _ _ (neither _ _ (neither _ _ is).1).0)
+
+  pub room_allowed : filter_denial found count fs (AddFilter name sts) ≡ None → length fs < 1024
+  room_allowed is =
+      let command : Command = AddFilter name sts in
+      let is_there = (neither (first_missing (filter_missing found fs command)) _ is).1 in
+      let is_new = (neither (unless (not (is_filter_taken found fs command)) NameTaken) _ is_there).1 in
+      let is_ordered = (neither (filter_order fs command) _ is_new).1 in
+      let has_operands = (neither (filter_operand command) _ is_ordered).1 in
+      let within : nat_lt (length fs) 1024 ≡ true = holds_unless (nat_lt (length fs) 1024) (Limit thing.Filter 1024) (neither (filter_limit count fs command) None has_operands).0 in
+      grind (arith, nat_tests)
 
   pub there_allowed : filter_denial found count fs (SetFilter name sts) ≡ None → has_filter name fs ≡ true
   there_allowed is = there_first (has_filter name fs) thing.Filter _ (neither _ _ is).0

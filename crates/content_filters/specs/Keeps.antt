@@ -1,5 +1,5 @@
 -- Which conditions and filters the table keeps, and what its verdicts are.
-use Rattle.std.specs.Prelude.{◌≡◌, ℕ, ◌<◌, Bool, not, ◌&&◌, List, [], ◌∷◌, ◌++◌, map, Option, Some, option_map, vec_len}
+use Rattle.std.specs.Prelude.{◌≡◌, ℕ, ◌<◌, ◌≤◌, Bool, not, ◌&&◌, List, [], ◌∷◌, ◌++◌, map, length, Option, Some, option_map, vec_len}
 use Rattle.std.specs.List.{list_any}
 use Rattle.std.specs.HashMap.{get}
 use Rattle.news_types.specs.Names.{Bytes, same, is_in}
@@ -11,7 +11,7 @@ use Rattle.content_filters.specs.declared.table.Filters.{Filters}
 use Rattle.content_filters.specs.declared.verdicts.Verdicts.{Verdicts}
 use Rattle.content_filters.specs.Kept.{condition_of, kept_of, oldest_first, age, AreApart, at_name, verdict_at, truth, AreBlocks}
 
--- the table keeps the condition of each name, so many conditions, and these filters (newest first)
+-- the table keeps the condition of each name, so many conditions, and these filters (newest first), which are no more than may be added
 pub record Keeps (t : Filters) (condition : Bytes → Option Condition) (count : ℕ) (fs : List Filter) : Type 0 where
   pub each : (name : Bytes) → option_map condition_of (at_name t.condition_places t.conditions.items name) ≡ condition name
   pub inside : (name : Bytes) (place : ℕ) → get same t.condition_places name ≡ Some place → place < vec_len t.conditions
@@ -19,6 +19,7 @@ pub record Keeps (t : Filters) (condition : Bytes → Option Condition) (count :
   pub filters : t.filters.items ≡ map kept_of (oldest_first fs)
   pub ages : (name : Bytes) → get same t.filter_places name ≡ age fs name
   pub apart : AreApart fs
+  pub few : length fs ≤ 1024
   pub blocking : AreBlocks fs t.blocks.items
 
 -- the verdicts so far, and those on these filters, each by the verdicts before it

@@ -1,5 +1,5 @@
 -- What the table keeps, as the facts have it.
-use Rattle.std.specs.Prelude.{◌≡◌, ℕ, Bool, false, ◌&&◌, List, [], ◌∷◌, ◌++◌, length, Option, Some, None, option_and_then, slice_get, unwrap_or, if◌then◌else◌}
+use Rattle.std.specs.Prelude.{◌≡◌, ℕ, Bool, false, ◌&&◌, List, [], ◌∷◌, ◌++◌, length, Option, Some, None, option_and_then, slice_get, unwrap_or, find, if◌then◌else◌}
 use Rattle.std.specs.List.{list_any}
 use Rattle.std.specs.HashMap.{HashMap, get}
 use Rattle.news_types.specs.Names.{Bytes, same, is_in, AreInOrder}
@@ -21,6 +21,10 @@ kept_of f = record { name = f.name; statements = f.statements }
 abbrev pub oldest_first : List Filter → List Filter
 oldest_first [] = []
 oldest_first (f ∷ fs) = oldest_first fs ++ f ∷ []
+
+-- the filter of that name
+abbrev pub filter_named : Bytes → List Filter → Option Filter
+filter_named name fs = find (λ (f : Filter). same f.name name) fs
 
 -- how many filters are older than the filter of that name
 abbrev pub age : List Filter → Bytes → Option ℕ

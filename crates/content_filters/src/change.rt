@@ -1,5 +1,5 @@
 //! Changes of the table: their memory is taken first, and they are made later without any.
-ghost use Rattle.std.specs.Prelude.{◌≡◌, ◌+◌, ◌<◌, ℕ, List, ◌∷◌, Option, Some, None, IfOk, IsTrue, OnOk, map, filter, not, true, false, if◌then◌else◌, slice_set, slice_index_or, vec_len, vec_capacity};
+ghost use Rattle.std.specs.Prelude.{◌≡◌, ◌+◌, ◌<◌, ℕ, List, ◌∷◌, Option, Some, None, IfOk, IsTrue, OnOk, map, filter, not, true, false, if◌then◌else◌, length, slice_set, slice_index_or, vec_len, vec_capacity};
 ghost use Rattle.std.specs.HashMap.{spare};
 ghost use Rattle.news_types.specs.Names.{Bytes, same};
 ghost use Rattle.news_types.specs.History.{History};
@@ -159,7 +159,7 @@ impl Filters {
     fn add_filter(&mut self, filter: KeptFilter)
         requires filters { vec_len self.old.filters < vec_capacity self.old.filters }
         requires places { 0 < spare self.old.filter_places }
-        ensures { (found : Bytes → Option Condition) (count : ℕ) (fs : List Filter) → Keeps self.old found count fs → has_filter filter.name fs ≡ false
+        ensures { (found : Bytes → Option Condition) (count : ℕ) (fs : List Filter) → Keeps self.old found count fs → has_filter filter.name fs ≡ false → length fs < 1024
             → Keeps self.new found count (record { name = filter.name; statements = filter.statements; blocks = false } ∷ fs) }
     {
         let place = self.filters.len();

@@ -11,9 +11,9 @@ use crate::operands::is_folding_op;
 use news_types::{Field, Memory, Op, Story, Text, Texts};
 use std::alloc::Global;
 
-/// A condition: its value is folded once, when it is added.
+/// A condition as the table keeps it: its value is folded once, when it is added.
 #[derive(Drop)]
-pub(crate) struct KeptCondition {
+pub struct KeptCondition {
     pub(crate) field: Field,
     pub(crate) op: Op,
     pub(crate) values: Texts,
@@ -134,6 +134,27 @@ impl KeptCondition {
             values,
             folded,
         })
+    }
+
+    /// The field of a story that it looks at.
+    pub fn field(&self) -> Field
+        ensures { result ≡ (condition_of self.now).field }
+    {
+        self.field
+    }
+
+    /// How it compares the field with its values.
+    pub fn op(&self) -> Op
+        ensures { result ≡ (condition_of self.now).op }
+    {
+        self.op
+    }
+
+    /// The values, as they were given.
+    pub fn values(&self) -> &[Text]
+        ensures { result.now ≡ (condition_of self.now).values }
+    {
+        self.values.as_slice()
     }
 
     /// Whether the condition is true of the story. A field that it folds is kept in `folds`, for the next.

@@ -12,6 +12,7 @@ mod table;
 mod verdicts;
 
 pub use change::FilterChange;
+pub use condition::KeptCondition;
 pub use judge::FilterDenial;
-pub use table::Filters;
+pub use table::{Filters, KeptFilter};
 pub use verdicts::Verdicts;

@@ -1,5 +1,5 @@
 //! Names, each with its place in the order of adding.
-ghost use Rattle.std.specs.Prelude.{◌≡◌, ◌<◌, ℕ, OnOk, Some, if◌then◌else◌};
+ghost use Rattle.std.specs.Prelude.{◌≡◌, ◌+◌, ◌<◌, ◌^◌, ℕ, OnOk, Some, if◌then◌else◌};
 ghost use Rattle.std.specs.HashMap.{get, spare};
 ghost use Rattle.news_types.specs.Names.{Bytes, same};
 ghost use Rattle.content_filters.specs.Kept.{verdict_at};
@@ -12,6 +12,13 @@ pub(crate) fn place_of(places: &HashMap<Name, usize>, name: &Name) -> Option<usi
     ensures { result ≡ get same places.now name.now }
 {
     places.get(name).copied()
+}
+
+/// The number of what stands at a place, from 1, if it fits.
+pub(crate) fn number_at(place: usize) -> Option<u32>
+    ensures { place + 1 < 2 ^ 32 → result ≡ Some (place + 1) }
+{
+    u32::try_from(place).ok()?.checked_add(1)
 }
 
 /// Takes the memory for one more name.

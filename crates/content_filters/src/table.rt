@@ -1,18 +1,19 @@
 //! The table of conditions, filters and blocks.
-ghost use Rattle.std.specs.Prelude.{◌≡◌, ℕ, List, [], Option, None, IfOk, map};
+ghost use Rattle.std.specs.Prelude.{◌≡◌, ◌+◌, ℕ, List, [], Option, Some, None, IfOk, map, length, option_map, slice_get, if◌then◌else◌};
 ghost use Rattle.std.specs.List.{list_any, list_all};
+ghost use Rattle.std.specs.Option.{option_copied};
 ghost use Rattle.news_types.specs.Names.{Bytes};
 ghost use Rattle.news_types.specs.History.{History};
 ghost use Rattle.news_types.specs.Conditions.{Condition, condition, is_true_of};
-ghost use Rattle.news_types.specs.Filters.{Filter, filters, has_filter, is_filter, holds, matches};
+ghost use Rattle.news_types.specs.Filters.{Filter, filters, has_filter, is_filter, older, holds, matches};
 ghost use Rattle.news_types.specs.declared.story.Story.{Story};
-ghost use Rattle.content_filters.specs.Kept.{condition_of, verdict_at, AreBlocks};
+ghost use Rattle.content_filters.specs.Kept.{condition_of, kept_of, filter_named, is_block, verdict_at, AreBlocks};
 ghost use Rattle.content_filters.specs.Keeps.{Keeps, AreVerdicts, judged, stops_at};
 ghost use Rattle.content_filters.specs.Reasons.{KeepsFacts};
 ghost use Rattle.feed_reasons.specs.Verdicts.{block};
 
 use crate::condition::KeptCondition;
-use crate::places::{place_of, verdict_at};
+use crate::places::{number_at, place_of, verdict_at};
 use crate::verdicts::Verdicts;
 use news_types::{Memory, Name, Statement, Statements, Story};
 use std::alloc::Global;
@@ -20,9 +21,25 @@ use std::collections::HashMap;
 
 /// A filter as the table keeps it.
 #[derive(Drop)]
-pub(crate) struct KeptFilter {
+pub struct KeptFilter {
     pub(crate) name: Name,
     pub(crate) statements: Statements,
+}
+
+impl KeptFilter {
+    /// The filter's name.
+    pub fn name(&self) -> Name
+        ensures { result ≡ self.now.name }
+    {
+        self.name
+    }
+
+    /// The statements, one of which has to hold.
+    pub fn statements(&self) -> &[Statement]
+        ensures { result.now ≡ self.now.statements }
+    {
+        self.statements.as_slice()
+    }
 }
 
 /// Conditions, filters and blocks.
@@ -66,6 +83,40 @@ impl Filters {
         ensures { (h : History) → KeepsFacts self.now h → result ≡ is_filter h filter.now }
     {
         self.has_filter(filter)
+    }
+
+    /// The condition of that name, if it is there. It takes no memory.
+    pub fn condition(&self, name: &Name) -> Option<&KeptCondition>
+        ensures { (h : History) → KeepsFacts self.now h
+            → option_map condition_of (option_copied result) ≡ condition h name.now }
+    {
+        let place = place_of(&self.condition_places, name)?;
+        self.conditions.get(place)
+    }
+
+    /// The filter of that name, if it is there. It takes no memory.
+    pub fn filter(&self, name: &Name) -> Option<&KeptFilter>
+        ensures { (h : History) → KeepsFacts self.now h
+            → option_copied result ≡ option_map kept_of (filter_named name.now (filters h)) }
+    {
+        let place = place_of(&self.filter_places, name)?;
+        filter_at(self.filters.as_slice(), place)
+    }
+
+    /// The place of the filter among all, where the oldest has 1, if it is there. It takes no memory.
+    pub fn filter_age(&self, name: &Name) -> Option<u32>
+        ensures { (h : History) → KeepsFacts self.now h
+            → result ≡ (if is_filter h name.now then Some (length (older name.now (filters h)) + 1) else None) }
+    {
+        let place = place_of(&self.filter_places, name)?;
+        number_at(place)
+    }
+
+    /// Whether the filter is there and a global block. It takes no memory.
+    pub fn is_block(&self, name: &Name) -> bool
+        ensures { (h : History) → KeepsFacts self.now h → result ≡ is_block (filters h) name.now }
+    {
+        name.is_among(self.blocks.as_slice())
     }
 
     /// Whether the filter is there.
@@ -187,6 +238,13 @@ impl Filters {
             statement.conditions.as_slice(),
         ) && all_match(&self.filter_places, filters, statement.filters.as_slice())
     }
+}
+
+/// The filter at a place in the order of adding.
+fn filter_at(filters: &[KeptFilter], place: usize) -> Option<&KeptFilter>
+    ensures { option_copied result ≡ slice_get filters.now place }
+{
+    filters.get(place)
 }
 
 /// Whether the verdict at each of the names is yes.

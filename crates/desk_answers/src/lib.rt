@@ -10,4 +10,4 @@ mod words;
 
 pub use answers::{answer_text, bad_text, fault_text, reply_text};
 pub use denials::denial_text;
-pub use words::{word_of_denial, word_of_state};
+pub use words::{word_of_denial, word_of_kind, word_of_state};

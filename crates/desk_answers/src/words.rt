@@ -4,7 +4,8 @@ ghost use Rattle.desk_answers.specs.Words.{kind_word, state_word, privilege_word
 
 use news_types::{Denial, FeedState, Kind, Privilege, State, Thing};
 
-pub(crate) fn word_of_kind(kind: Kind) -> &'static str
+/// The word of what a publication is: `first`, `correct`, `kill` or `recall`.
+pub fn word_of_kind(kind: Kind) -> &'static str
     ensures { result.now ≡ kind_word kind }
 {
     match kind {

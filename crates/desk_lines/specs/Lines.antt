@@ -20,7 +20,7 @@ use Rattle.desk_lines.specs.Forms.{whole, any_text, name, ◌means◌}
 use Rattle.desk_lines.specs.Rows.{Row, by_word}
 use Rattle.desk_lines.specs.Objects.{story, member}
 use Rattle.desk_lines.specs.Commands.{command, an_item}
-use Rattle.desk_lines.specs.Questions.{items, reach, targets}
+use Rattle.desk_lines.specs.Questions.{items, things, reach, publications, targets}
 
 -- ---- requests
 
@@ -55,7 +55,9 @@ question_rows =
     ("check" means gives (asked.Query query.Check)) ∷
     ("archive" means archive) ∷
     ("items" means do found ← items; gives (asked.Desk found)) ∷
+    ("things" means do found ← things; gives (asked.Desk found)) ∷
     ("reach" means do found ← reach; gives (asked.Desk found)) ∷
+    ("publications" means do found ← publications; gives (asked.Desk found)) ∷
     ("publication" means do
       number ← needs the.Publication (whole 4294967295)
       gives (asked.Query (query.Publication number))) ∷ []

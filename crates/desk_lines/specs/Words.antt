@@ -13,6 +13,8 @@ use Rattle.news_types.specs.declared.words.Field.TheVariants as field
 use Rattle.news_types.specs.declared.words.Op.{Op}
 use Rattle.news_types.specs.declared.words.Op.TheVariants as op
 use Rattle.news_types.specs.Names.{Bytes}
+use Rattle.desk_views.specs.declared.question.Register.{Register}
+use Rattle.desk_views.specs.declared.question.Register.TheVariants as register
 use Rattle.desk_lines.specs.Forms.{◌means◌}
 
 -- what a story is
@@ -28,6 +30,13 @@ state_words =
     ("fetched" means state.Fetched) ∷ ("submitted" means state.Submitted) ∷ ("in_progress" means state.InProgress) ∷
     ("spiked" means state.Spiked) ∷ ("scheduled" means state.Scheduled) ∷ ("published" means state.Published) ∷
     ("corrected" means state.Corrected) ∷ ("killed" means state.Killed) ∷ ("recalled" means state.Recalled) ∷ []
+
+-- the kinds of things that have names
+abbrev pub register_words : List (Bytes × Register)
+register_words =
+    ("users" means register.Users) ∷ ("desks" means register.Desks) ∷ ("conditions" means register.Conditions) ∷
+    ("filters" means register.Filters) ∷ ("products" means register.Products) ∷ ("subscribers" means register.Subscribers) ∷
+    ("schemes" means register.Schemes) ∷ ("providers" means register.Providers) ∷ []
 
 -- the form of a subscriber's feed
 abbrev pub format_words : List (Bytes × Format)

@@ -21,3 +21,4 @@ pub use lines::{
     read_reach_body, read_receipt_body, read_request_body, read_story,
 };
 pub use property::{LineFault, LineProperty, word_of_property};
+pub use questions::read_register;

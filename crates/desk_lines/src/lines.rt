@@ -12,7 +12,7 @@ use crate::commands::{command, item};
 use crate::fields::{given, needs_any_text, needs_name, needs_whole};
 use crate::objects::{each, story_of};
 use crate::property::{LineFault, LineProperty};
-use crate::questions::{items, reach, targets};
+use crate::questions::{items, publications, reach, targets, things};
 use news_types::{Name, Names, Query, Story, Text};
 use package_members::{Members, makes_package};
 use serde_json::Value;
@@ -293,7 +293,9 @@ fn question(alloc: Global, object: &Value) -> Result<Asked, LineFault>
         "check" => Ok(Asked::Query(Query::Check)),
         "archive" => archive(alloc, object),
         "items" => Ok(Asked::Desk(items(object)?)),
+        "things" => Ok(Asked::Desk(things(object)?)),
         "reach" => Ok(Asked::Desk(reach(alloc, object)?)),
+        "publications" => Ok(Asked::Desk(publications(object)?)),
         "publication" => Ok(Asked::Query(Query::Publication {
             number: needs_whole(object, LineProperty::Publication, 4294967295)? as u32,
         })),

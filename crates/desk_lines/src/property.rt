@@ -73,6 +73,7 @@ pub enum LineProperty {
     Below,
     State,
     Publication,
+    Of,
 }
 
 /// Why a line is not read.
@@ -186,5 +187,6 @@ pub fn word_of_property(property: LineProperty) -> &'static str
         LineProperty::Below => "below",
         LineProperty::State => "state",
         LineProperty::Publication => "publication",
+        LineProperty::Of => "of",
     }
 }

@@ -4,14 +4,15 @@ ghost use Rattle.serde_json.specs.View.{view};
 ghost use Rattle.desk_lines.specs.Reading.{IsRead};
 ghost use Rattle.desk_lines.specs.Reading as said;
 ghost use Rattle.desk_lines.specs.Forms as form;
+ghost use Rattle.desk_lines.specs.Forms.{among};
 ghost use Rattle.desk_lines.specs.Questions as question_says;
-ghost use Rattle.desk_lines.specs.Words.{state_words};
+ghost use Rattle.desk_lines.specs.Words.{register_words, state_words};
 
 use crate::commands::item;
-use crate::fields::{given, may_names, option_name, option_whole};
+use crate::fields::{given, may_names, needs_whole, needs_word, option_name, option_whole};
 use crate::forms::{Word, word_of};
 use crate::property::{LineFault, LineProperty};
-use desk_views::DeskQuestion;
+use desk_views::{DeskQuestion, Register};
 use news_types::{Names, State};
 use serde_json::Value;
 use std::alloc::Global;
@@ -36,6 +37,32 @@ impl Word for State {
             _ => None,
         }
     }
+}
+
+impl Word for Register {
+    ghost words = { register_words };
+
+    fn of(word: &str) -> Option<Register> {
+        match word {
+            "users" => Some(Register::Users),
+            "desks" => Some(Register::Desks),
+            "conditions" => Some(Register::Conditions),
+            "filters" => Some(Register::Filters),
+            "products" => Some(Register::Products),
+            "subscribers" => Some(Register::Subscribers),
+            "schemes" => Some(Register::Schemes),
+            "providers" => Some(Register::Providers),
+            _ => None,
+        }
+    }
+}
+
+/// The kind of things that a word names: `users`, `desks`, `conditions`, `filters`, `products`, `subscribers`, `schemes` or
+/// `providers`.
+pub fn read_register(word: &str) -> Option<Register>
+    ensures { result ≡ among register_words word.now }
+{
+    Register::of(word)
 }
 
 /// A question for the items of a desk.
@@ -78,6 +105,28 @@ fn state(object: &Value) -> Result<Option<State>, LineProperty>
             }
         }
     }
+}
+
+/// A question for the things of a kind.
+#[tactic(auto, unfolding(crate::specs::Questions::things))]
+pub(crate) fn things(object: &Value) -> Result<DeskQuestion, LineProperty>
+    ensures { result ≡ question_says.things (view object.now) }
+{
+    Ok(DeskQuestion::Things {
+        of: needs_word(object, LineProperty::Of)?,
+        after: option_name(object, LineProperty::After)?,
+    })
+}
+
+/// A question for the publications of an item.
+#[tactic(auto, unfolding(crate::specs::Questions::publications))]
+pub(crate) fn publications(object: &Value) -> Result<DeskQuestion, LineProperty>
+    ensures { result ≡ question_says.publications (view object.now) }
+{
+    Ok(DeskQuestion::Publications {
+        item: item(object)?,
+        after: needs_whole(object, LineProperty::After, 4294967295)? as u32,
+    })
 }
 
 /// A question whom a publication of an item would reach.

@@ -2,3 +2,9 @@ pub mod Listed
 pub mod Wanted
 pub mod Paged
 pub mod Reaching
+pub mod Told
+pub mod Numbers
+pub mod Coursed
+pub mod Destined
+pub mod ByKind
+pub mod Filtered

@@ -29,3 +29,8 @@ take_one xs i x lt is = ap (λ y. take i xs ++ y ∷ []) is ∙ sym (take_more x
 
 pub map_one : {A B : Type 0} (f : A → B) (xs : List A) (i : ℕ) (x : A) → i < length xs → x ≡ get_or xs i x → map f (take i xs) ++ f x ∷ [] ≡ map f (take (i + 1) xs)
 map_one f xs i x lt is = sym (map-append f (take i xs) (x ∷ [])) ∙ ap (map f) (take_one xs i x lt is)
+
+-- the same members make the same objects
+pub same_objects : {A B : Type 0} (f : A → Members) (g : B → Members) (xs : List A) (ys : List B) → map f xs ≡ map g ys → objects f xs ≡ objects g ys
+same_objects f g xs ys same =
+    objects_in (λ (m : Members). m) f xs ∙ ap (objects (λ (m : Members). m)) same ∙ sym (objects_in (λ (m : Members). m) g ys)

@@ -10,6 +10,7 @@ use Rattle.news_types.specs.Due.{standing_first}
 use Rattle.news_types.specs.Publications.{item, made}
 use Rattle.told_objects.specs.Members.{objects}
 use Rattle.desk_views.specs.Items.{Wanted, is_wanted, down_from}
+use Rattle.desk_views.specs.Wires.{last_wire}
 use Rattle.desk_questions.specs.declared.line.ItemLine.{ItemLine}
 use Rattle.desk_questions.specs.Items.{item_row, line_at, line_members, line_wanted, members_of}
 use Rattle.desk_questions.proofs.Listed.{items_then, then_none, then_one}
@@ -32,7 +33,7 @@ module _ (h : History) (w : Wanted) where
 
   -- one that is asked for has its line
   line_there : (i : ℕ) → is_wanted h w i ≡ true → (line : ItemLine) × (line_at h i ≡ Some line)
-  line_there i is = wanted_told w i (λ (it : Item). state_at (moment h) (standing_first i ((made h).standing)) it.state) (item h i) is
+  line_there i is = wanted_told w i (last_wire h i) (λ (it : Item). state_at (moment h) (standing_first i ((made h).standing)) it.state) (item h i) is
 
   wanted_line : (i : ℕ) (line : ItemLine) → is_wanted h w i ≡ true → line_at h i ≡ Some line → line_wanted h w i ≡ Some line
   wanted_line i line is told = ap (λ (b : Bool). if b then line_at h i else None) is ∙ told

@@ -10,9 +10,12 @@ use Rattle.news_types.specs.Items.{Item}
 use Rattle.news_types.specs.Publications.{item, state}
 use Rattle.desk_answers.specs.Words.{state_word}
 use Rattle.told_objects.specs.Members.{◌with◌, text, number, list, answering, written}
+use Rattle.desk_views.specs.declared.wire.Wire.{Wire}
 use Rattle.desk_views.specs.Items.{Wanted, is_wanted_item, items_below}
+use Rattle.desk_views.specs.Wires.{last_wire}
 use Rattle.desk_questions.specs.declared.line.ItemLine.{ItemLine}
 use Rattle.desk_questions.specs.declared.items.Wanted as code
+use Rattle.desk_questions.specs.Words.{status_word}
 
 -- what is asked for, as the definitions have it
 abbrev pub wanted_of : code.Wanted → Wanted
@@ -25,9 +28,9 @@ is_there_if_given is_there (Some name) = is_there name
 
 -- ---- what is told of an item
 
--- in this state, at this place and with this holder
-abbrev pub line_given : ℕ → State → Option Place → Option Holder → Item → ItemLine
-line_given i now place holder it = record {
+-- in this state, at this place, with this holder and this of its provider
+abbrev pub line_given : ℕ → State → Option Place → Option Holder → Option Wire → Item → ItemLine
+line_given i now place holder wire it = record {
   item = i;
   state = now;
   version = it.version;
@@ -36,22 +39,23 @@ line_given i now place holder it = record {
   urgency = it.story.urgency;
   place = place;
   holder = holder;
+  wire = wire;
 }
 
-abbrev pub line_by : ℕ → Option Item → Option State → Option ItemLine
-line_by i (Some it) (Some now) = Some (line_given i now it.place it.holder it)
-line_by i it now = None
+abbrev pub line_by : ℕ → Option Wire → Option Item → Option State → Option ItemLine
+line_by i wire (Some it) (Some now) = Some (line_given i now it.place it.holder wire it)
+line_by i wire it now = None
 
 -- item i as it is at the moment of the list, if it is there
 abbrev pub line_at : History → ℕ → Option ItemLine
-line_at h i = line_by i (item h i) (state h i (moment h))
+line_at h i = line_by i (last_wire h i) (item h i) (state h i (moment h))
 
-abbrev pub wanted_by : Wanted → ℕ → Option Item → Option State → Option ItemLine
-wanted_by w i it now = if is_wanted_item w it now then line_by i it now else None
+abbrev pub wanted_by : Wanted → ℕ → Option Wire → Option Item → Option State → Option ItemLine
+wanted_by w i wire it now = if is_wanted_item w it now then line_by i wire it now else None
 
 -- item i, if it is asked for
 abbrev pub line_wanted : History → Wanted → ℕ → Option ItemLine
-line_wanted h w i = wanted_by w i (item h i) (state h i (moment h))
+line_wanted h w i = wanted_by w i (last_wire h i) (item h i) (state h i (moment h))
 
 -- ---- as an object, with keys in byte order
 
@@ -65,14 +69,19 @@ unfoldable pub held : Option Holder → Members → Members
 held None members = members
 held (Some holder) members = members with text "session" holder.session with text "user" holder.user
 
--- an item, without its place and holder
+-- what its provider last sent with it, if a provider sent it
+unfoldable pub wired : Option Wire → Members → Members
+wired None members = members
+wired (Some wire) members = members with number "embargo" wire.embargo with text "status" (status_word wire.status)
+
+-- an item, without its place, its holder and its provider's
 unfoldable pub texts : ItemLine → Members
 texts line =
     no_members with text "headline" line.headline with number "item" line.item with text "slugline" line.slugline
     with text "state" (state_word line.state) with number "urgency" line.urgency with number "version" line.version
 
 abbrev pub line_members : ItemLine → Members
-line_members line = texts line with placed line.place with held line.holder
+line_members line = texts line with placed line.place with held line.holder with wired line.wire
 
 -- one that is not there has no members
 abbrev pub members_of : Option ItemLine → Members

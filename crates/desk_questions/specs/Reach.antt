@@ -42,6 +42,10 @@ cause (Permitted product) members = members with text "product" product
 cause (Refused products) members = members with list "products" refusal_row products
 cause _ members = members
 
+-- what a verdict says, and what it names
+abbrev pub verdict_row : Verdict → Members
+verdict_row v = no_members with text "reason" (reason_word v) with cause v
+
 abbrev pub reached_in : ReachLine → Reached
 reached_in line = record { subscriber = line.subscriber; verdict = line.verdict; had = line.had }
 

@@ -5,7 +5,9 @@ ghost use Rattle.news_room.specs.Stands.{Stands, SomeBook};
 ghost use Rattle.desk_questions.specs.Told.{desk_told};
 
 use crate::items::{Wanted, tell_items};
+use crate::published::tell_publications;
 use crate::reach::tell_reach;
+use crate::things::tell_things;
 use desk_views::DeskQuestion;
 use news_io::Keeper;
 use news_room::Room;
@@ -24,7 +26,7 @@ pub enum DeskTold {
 /// The answer to a question of a desk, from the list as it is. An error is only want of memory.
 ///
 /// Items are looked up one by one, from the newest below the number that is given down to the hundredth that is asked for. Of
-/// stories only the headlines and sluglines of these are copied.
+/// stories only the headlines and sluglines of these are copied. Pages of things and of publications are found by binary search.
 pub fn answer_desk<K: Keeper>(
     alloc: Global,
     room: &Room<K>,
@@ -48,8 +50,12 @@ pub fn answer_desk<K: Keeper>(
             };
             tell_items(alloc, newsroom, &wanted, *below)
         }
+        DeskQuestion::Things { of, after } => tell_things(alloc, newsroom, *of, after),
         DeskQuestion::Reach { item, targets } => {
             tell_reach(alloc, newsroom, *item, targets.as_slice())
+        }
+        DeskQuestion::Publications { item, after } => {
+            tell_publications(alloc, newsroom, *item, *after)
         }
     }
 }

@@ -37,7 +37,8 @@ pub(crate) fn tell_items(
     below: u32,
 ) -> Result<DeskTold, Memory>
     requires { Stands newsroom.now }
-    ensures { IfOk result (λ told. (h : History) → StandsFor newsroom.now h → told ≡ items_told h (wanted_of wanted.now) below) }
+    ensures { IfOk result (λ told. (h : History) → StandsFor newsroom.now h
+        → told ≡ items_told h (wanted_of wanted.now) below) }
 {
     if let Some(thing) = unknown(newsroom, wanted) {
         return Ok(DeskTold::Unknown(thing));
@@ -70,7 +71,8 @@ fn unknown(newsroom: &Newsroom, wanted: &Wanted) -> Option<Thing>
 
 /// Whether the desk is there, if one is given.
 fn has_desk(newsroom: &Newsroom, desk: &Option<Name>) -> bool
-    ensures { (h : History) → StandsFor newsroom.now h → result ≡ is_there_if_given (is_desk h) desk.now }
+    ensures { (h : History) → StandsFor newsroom.now h
+        → result ≡ is_there_if_given (is_desk h) desk.now }
 {
     match desk {
         Some(desk) => newsroom.rules().is_desk(desk),
@@ -80,7 +82,8 @@ fn has_desk(newsroom: &Newsroom, desk: &Option<Name>) -> bool
 
 /// Whether the user is there, if one is given.
 fn has_user(newsroom: &Newsroom, user: &Option<Name>) -> bool
-    ensures { (h : History) → StandsFor newsroom.now h → result ≡ is_there_if_given (is_user h) user.now }
+    ensures { (h : History) → StandsFor newsroom.now h
+        → result ≡ is_there_if_given (is_user h) user.now }
 {
     match user {
         Some(user) => newsroom.rules().holds(user, None),
@@ -137,17 +140,19 @@ fn add_wanted(
 
 /// What is told of the item of that number, if it is asked for.
 fn wanted_line(newsroom: &Newsroom, wanted: &Wanted, item: u32) -> Result<Option<ItemLine>, Memory>
-    ensures { IfOk result (λ line. (h : History) → StandsFor newsroom.now h → line ≡ line_wanted h (wanted_of wanted.now) item) }
+    ensures { IfOk result (λ line. (h : History) → StandsFor newsroom.now h
+        → line ≡ line_wanted h (wanted_of wanted.now) item) }
 {
     let Some(state) = newsroom.stories().state(item, newsroom.moment()) else {
         return Ok(None);
     };
     let place = newsroom.rules().place(item);
     let holder = newsroom.rules().holder(item);
+    let wire = newsroom.wires().wire(item);
     if !is_wanted(wanted, &place, state, &holder) {
         return Ok(None);
     }
-    line_of(newsroom.stories(), item, state, place, holder)
+    line_of(newsroom.stories(), item, state, place, holder, wire)
 }
 
 /// Whether an item so placed, in that state and so held is asked for.

@@ -21,7 +21,8 @@ pub(crate) fn tell_reach(
     item: u32,
     targets: &[Name],
 ) -> Result<DeskTold, Memory>
-    ensures { IfOk result (λ told. (h : History) → StandsFor newsroom.now h → told ≡ reach_told h item targets.now) }
+    ensures { IfOk result (λ told. (h : History) → StandsFor newsroom.now h
+        → told ≡ reach_told h item targets.now) }
 {
     let Some(story) = newsroom.stories().story(item) else {
         return Ok(DeskTold::Unknown(Thing::Item));

@@ -2,7 +2,7 @@
 ghost use Rattle.std.specs.Prelude.{◌≡◌, IfOk, map};
 ghost use Rattle.told_objects.specs.Members.{list};
 ghost use Rattle.told_objects.specs.Seen.{seen};
-ghost use Rattle.desk_questions.specs.Reach.{cause, filtered, reach_row, reached_in, reason_word, refusal_in, refusal_row};
+ghost use Rattle.desk_questions.specs.Reach.{cause, filtered, reach_row, reached_in, reason_word, refusal_in, refusal_row, verdict_row};
 
 use feed_reasons::{Refusal, Verdict};
 use news_types::Name;
@@ -27,6 +27,14 @@ impl Shown for ReachLine {
             .text("subscriber", self.subscriber.as_str())?;
         caused(alloc, told, &self.verdict)
     }
+}
+
+/// What a verdict says, and what it names, as an object.
+pub fn verdict_object(alloc: Global, verdict: &Verdict) -> Result<Object, AllocError>
+    ensures { IfOk result (λ told. seen told ≡ verdict_row verdict.now) }
+{
+    let told = Object::new(alloc).text("reason", word_of_reason(verdict))?;
+    caused(alloc, told, verdict)
 }
 
 /// The word of what a verdict says.

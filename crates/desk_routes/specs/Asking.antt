@@ -7,10 +7,13 @@ use Rattle.news_types.specs.Fits.{FitsStory, FitsIncoming}
 use Rattle.news_types.specs.FitsCommands.{FitsCommand}
 use Rattle.desk_views.specs.declared.question.DeskQuestion.{DeskQuestion}
 use Rattle.desk_views.specs.declared.question.DeskQuestion.TheVariants as desk
+use Rattle.desk_views.specs.declared.question.Register.{Register}
 use Rattle.desk_lines.specs.declared.asked.Asked.{Asked}
 use Rattle.desk_lines.specs.declared.asked.Asked.TheVariants as line
 use Rattle.desk_lines.specs.declared.lines.PackageRequest.{PackageRequest}
 use Rattle.desk_lines.specs.declared.property.LineProperty.{LineProperty}
+use Rattle.desk_lines.specs.Forms.{among}
+use Rattle.desk_lines.specs.Words.{register_words}
 use Rattle.desk_lines.specs.Lines.{request_body, receipt_body, archive_body, package_body, reach_body}
 use Rattle.package_members.specs.Members.{make_package}
 use Rattle.ninjs_text.specs.declared.fault.NinjsFault.{NinjsFault}
@@ -154,6 +157,32 @@ publication_ask path = do
   number ← number_at 2 path
   Ok (Query (query.Publication number))
 
+-- the kind of things that a part names
+abbrev pub register_at : ℕ → Bytes → Result Register Refusal
+register_at n path = do
+  word ← name_at n path
+  or_refused BadPath (among register_words word)
+
+-- the things of a kind, from the first on
+abbrev pub things_ask : Bytes → Result HttpAsk Refusal
+things_ask path = do
+  kind ← register_at 2 path
+  Ok (Desk (desk.Things kind None))
+
+-- those behind this name
+abbrev pub things_after_ask : Bytes → Result HttpAsk Refusal
+things_after_ask path = do
+  kind ← register_at 2 path
+  after ← name_at 4 path
+  Ok (Desk (desk.Things kind (Some after)))
+
+-- the publications of an item above this number
+abbrev pub publications_ask : Bytes → Result HttpAsk Refusal
+publications_ask path = do
+  item ← number_at 2 path
+  after ← number_at 5 path
+  Ok (Desk (desk.Publications item after))
+
 -- what a caller asks by a route: with this path and this body
 abbrev pub ask_by : Route → Bytes → Bytes → Bytes → Result HttpAsk Refusal
 ask_by the.Requests caller path body = request_ask caller body
@@ -171,6 +200,9 @@ ask_by the.DeskItemsBelow caller path body = desk_items_ask path
 ask_by the.Reach caller path body = reach_ask path
 ask_by the.ReachOfTargets caller path body = targets_ask path body
 ask_by the.Publication caller path body = publication_ask path
+ask_by the.Things caller path body = things_ask path
+ask_by the.ThingsAfter caller path body = things_after_ask path
+ask_by the.PublicationsAfter caller path body = publications_ask path
 -- the metrics are asked without a caller (`asked_by`)
 ask_by the.Metrics caller path body = Err NoRoute
 

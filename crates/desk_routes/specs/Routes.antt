@@ -8,7 +8,7 @@ use Rattle.matchit.specs.Seek.{first}
 use Rattle.matchit.specs.declared.error.InsertError.{InsertError}
 use Rattle.news_types.specs.Names.{Bytes, same}
 use Rattle.desk_routes.specs.declared.route.Route.{Route}
-use Rattle.desk_routes.specs.declared.route.Route.TheVariants.{Requests, Item, Queue, FeedAfter, Frame, Receipts, Ingest, Archive, Packages, Contents, ItemsBelow, DeskItemsBelow, Reach, ReachOfTargets, Publication, Metrics}
+use Rattle.desk_routes.specs.declared.route.Route.TheVariants.{Requests, Item, Queue, FeedAfter, Frame, Receipts, Ingest, Archive, Packages, Contents, ItemsBelow, DeskItemsBelow, Reach, ReachOfTargets, Publication, Things, ThingsAfter, PublicationsAfter, Metrics}
 
 -- what the paths of a route look like
 abbrev pub pattern_of : Route → Bytes
@@ -27,6 +27,9 @@ pattern_of DeskItemsBelow = codes "/desks/{desk}/items/below/{n}"
 pattern_of Reach = codes "/items/{item}/reach"
 pattern_of ReachOfTargets = codes "/items/{item}/reach"
 pattern_of Publication = codes "/publications/{publication}"
+pattern_of Things = codes "/things/{of}/first"
+pattern_of ThingsAfter = codes "/things/{of}/after/{name}"
+pattern_of PublicationsAfter = codes "/items/{item}/publications/after/{n}"
 pattern_of Metrics = codes "/metrics"
 
 -- the one method of a route
@@ -46,6 +49,9 @@ method_of DeskItemsBelow = codes "GET"
 method_of Reach = codes "GET"
 method_of ReachOfTargets = codes "POST"
 method_of Publication = codes "GET"
+method_of Things = codes "GET"
+method_of ThingsAfter = codes "GET"
+method_of PublicationsAfter = codes "GET"
 method_of Metrics = codes "GET"
 
 -- the other route of its path, by another method; most paths have one route
@@ -65,10 +71,13 @@ with_read (Err error) route rows = rows
 abbrev pub with_route : Route → Rows → Rows
 with_route route rows = with_read (parse_route (pattern_of route)) route rows
 
--- the rows of the fifteen paths
-abbrev pub fifteen : Rows
-fifteen =
+-- the rows of the eighteen paths
+abbrev pub eighteen : Rows
+eighteen =
     with_route Metrics
+    (with_route PublicationsAfter
+    (with_route ThingsAfter
+    (with_route Things
     (with_route Publication
     (with_route Reach
     (with_route DeskItemsBelow
@@ -82,7 +91,7 @@ fifteen =
     (with_route FeedAfter
     (with_route Queue
     (with_route Item
-    (with_route Requests []))))))))))))))
+    (with_route Requests [])))))))))))))))))
 
 abbrev pub value_of : Option (RouteOf Route) → Option Route
 value_of None = None
@@ -90,7 +99,7 @@ value_of (Some row) = Some row.value
 
 -- the route of a path
 abbrev pub route_of : Bytes → Option Route
-route_of path = value_of (first fifteen path)
+route_of path = value_of (first eighteen path)
 
 abbrev pub if_its_method : Bytes → Route → Option Route
 if_its_method method route = if same method (method_of route) then Some route else None

@@ -9,9 +9,9 @@ use crate::path::{name_at, number_at};
 use crate::route::{Route, Routes};
 use desk_lines::{
     Asked, Described, LineFault, LineProperty, read_archive_body, read_package_body,
-    read_reach_body, read_receipt_body, read_request_body,
+    read_reach_body, read_receipt_body, read_register, read_request_body,
 };
-use desk_views::DeskQuestion;
+use desk_views::{DeskQuestion, Register};
 use http_wire::HttpRequest;
 use news_types::{Command, Incoming, Name, Names, Query, Text};
 use ninjs_text::NinjsFault;
@@ -184,6 +184,9 @@ fn ask_by(
         Route::Reach => reach_ask(alloc, path),
         Route::ReachOfTargets => targets_ask(alloc, path, body),
         Route::Publication => publication_ask(path),
+        Route::Things => things_ask(path),
+        Route::ThingsAfter => things_after_ask(path),
+        Route::PublicationsAfter => publications_ask(path),
         Route::Metrics => Err(Refusal::NoRoute),
     }
 }
@@ -359,6 +362,43 @@ fn publication_ask(path: &str) -> Result<HttpAsk, Refusal>
 {
     let number = needs_number(path, 2)?;
     Ok(HttpAsk::Query(Query::Publication { number }))
+}
+
+/// The kind of things that the part behind so many slashes of a path names.
+fn needs_register(path: &str, slashes: usize) -> Result<Register, Refusal>
+    ensures { result ≡ said.register_at slashes path.now }
+{
+    let word = needs_name(path, slashes)?;
+    match read_register(word.as_str()) {
+        Some(register) => Ok(register),
+        None => Err(Refusal::BadPath),
+    }
+}
+
+fn things_ask(path: &str) -> Result<HttpAsk, Refusal>
+    ensures value { result ≡ said.things_ask path.now }
+    ensures fits { IfOk result FitsAsk }
+{
+    let of = needs_register(path, 2)?;
+    Ok(HttpAsk::Desk(DeskQuestion::Things { of, after: None }))
+}
+
+fn things_after_ask(path: &str) -> Result<HttpAsk, Refusal>
+    ensures value { result ≡ said.things_after_ask path.now }
+    ensures fits { IfOk result FitsAsk }
+{
+    let of = needs_register(path, 2)?;
+    let after = Some(needs_name(path, 4)?);
+    Ok(HttpAsk::Desk(DeskQuestion::Things { of, after }))
+}
+
+fn publications_ask(path: &str) -> Result<HttpAsk, Refusal>
+    ensures value { result ≡ said.publications_ask path.now }
+    ensures fits { IfOk result FitsAsk }
+{
+    let item = needs_number(path, 2)?;
+    let after = needs_number(path, 5)?;
+    Ok(HttpAsk::Desk(DeskQuestion::Publications { item, after }))
 }
 
 fn of_line(asked: Asked) -> HttpAsk

@@ -1,6 +1,6 @@
 //! The routes of requests.
 ghost use Rattle.std.specs.Prelude.{◌≡◌, IfOk, OnOk};
-ghost use Rattle.desk_routes.specs.Routes.{beside, fifteen, if_its_method, if_method, method_of, pattern_of, route_of, routed, with_route};
+ghost use Rattle.desk_routes.specs.Routes.{beside, eighteen, if_its_method, if_method, method_of, pattern_of, route_of, routed, with_route};
 
 use http::Method;
 use matchit::Router;
@@ -26,6 +26,9 @@ pub enum Route {
     Reach,
     ReachOfTargets,
     Publication,
+    Things,
+    ThingsAfter,
+    PublicationsAfter,
     Metrics,
 }
 
@@ -49,6 +52,9 @@ impl Route {
             Route::DeskItemsBelow => "/desks/{desk}/items/below/{n}",
             Route::Reach | Route::ReachOfTargets => "/items/{item}/reach",
             Route::Publication => "/publications/{publication}",
+            Route::Things => "/things/{of}/first",
+            Route::ThingsAfter => "/things/{of}/after/{name}",
+            Route::PublicationsAfter => "/items/{item}/publications/after/{n}",
             Route::Metrics => "/metrics",
         }
     }
@@ -73,6 +79,9 @@ impl Route {
             | Route::DeskItemsBelow
             | Route::Reach
             | Route::Publication
+            | Route::Things
+            | Route::ThingsAfter
+            | Route::PublicationsAfter
             | Route::Metrics => "GET",
         }
     }
@@ -98,9 +107,9 @@ fn put(router: &mut Router<Route>, route: Route) -> Result<(), Memory>
     }
 }
 
-/// The router of the fifteen paths.
+/// The router of the eighteen paths.
 fn router_of_all(alloc: Global) -> Result<Router<Route>, Memory>
-    ensures { IfOk result (λ router. router ≡ fifteen) }
+    ensures { IfOk result (λ router. router ≡ eighteen) }
 {
     let mut router = Router::new(alloc);
     put(&mut router, Route::Requests)?;
@@ -117,13 +126,16 @@ fn router_of_all(alloc: Global) -> Result<Router<Route>, Memory>
     put(&mut router, Route::DeskItemsBelow)?;
     put(&mut router, Route::Reach)?;
     put(&mut router, Route::Publication)?;
+    put(&mut router, Route::Things)?;
+    put(&mut router, Route::ThingsAfter)?;
+    put(&mut router, Route::PublicationsAfter)?;
     put(&mut router, Route::Metrics)?;
     Ok(router)
 }
 
 /// The route of a path.
 fn route_at(router: &Router<Route>, path: &str) -> Option<Route>
-    requires { router.now ≡ fifteen }
+    requires { router.now ≡ eighteen }
     ensures { result ≡ route_of path.now }
 {
     match router.at(path) {
@@ -132,7 +144,7 @@ fn route_at(router: &Router<Route>, path: &str) -> Option<Route>
     }
 }
 
-/// The routes by their fifteen paths: made once, for any number of requests.
+/// The routes by their eighteen paths: made once, for any number of requests.
 #[derive(Drop)]
 pub struct Routes {
     alloc: Global,
@@ -141,13 +153,13 @@ pub struct Routes {
 
 impl Model for Routes {
     ghost use Rattle.std.specs.Prelude.{◌≡◌};
-    ghost use Rattle.desk_routes.specs.Routes.{fifteen};
+    ghost use Rattle.desk_routes.specs.Routes.{eighteen};
 
     ghost Value = { Unit {0} };
 
     ghost view = { λ a. tt };
 
-    ghost invariant = { λ a. a.router ≡ fifteen };
+    ghost invariant = { λ a. a.router ≡ eighteen };
 }
 
 impl Routes {

@@ -62,7 +62,7 @@ impl Desks {
         ensures { (h : History) → KeepsFacts self.now h → result ≡ denial.member_denial h caller.now (denial.asked_desk command.now (published.item h (items.named_item command.now))) }
     {
         let desk = asked_desk(command, self.place(named_item(command)))?;
-        if self.is_member(&desk, caller) {
+        if self.has_member(&desk, caller) {
             return None;
         }
         Some(Denial::NotMember { desk })

@@ -4,7 +4,8 @@ ghost use Rattle.std.specs.HashMap.{get};
 ghost use Rattle.news_types.specs.Names.{same};
 ghost use Rattle.news_types.specs.History.{History};
 ghost use Rattle.news_types.specs.Answers.{allowed};
-ghost use Rattle.news_types.specs.Desks.{is_desk};
+ghost use Rattle.news_types.specs.Desks.{is_desk, is_member};
+ghost use Rattle.news_types.specs.Users.{privileges};
 ghost use Rattle.news_types.specs.Denial.{absent_in_place};
 ghost use Rattle.news_types.specs.Items as items;
 ghost use Rattle.news_types.specs.Publications as published;
@@ -62,11 +63,25 @@ impl Desks {
         }
     }
 
+    /// What the user may do, if it is there. It takes no memory.
+    pub fn privileges(&self, user: &Name) -> Option<Privileges>
+        ensures { (h : History) → KeepsFacts self.now h → result ≡ privileges h user.now }
+    {
+        self.users.get(user).copied()
+    }
+
     /// Whether the desk is there. It takes no memory.
     pub fn is_desk(&self, desk: &Name) -> bool
         ensures { (h : History) → KeepsFacts self.now h → result ≡ is_desk h desk.now }
     {
         self.has_desk(desk)
+    }
+
+    /// Whether the user is a member of the desk. It takes no memory.
+    pub fn is_member(&self, desk: &Name, user: &Name) -> bool
+        ensures { (h : History) → KeepsFacts self.now h → result ≡ is_member h desk.now user.now }
+    {
+        self.has_member(desk, user)
     }
 
     /// What of the place is not there: the desk, or else the stage. It takes no memory.
@@ -145,7 +160,7 @@ impl Desks {
     }
 
     /// Whether the user is a member of the desk.
-    pub(crate) fn is_member(&self, desk: &Name, user: &Name) -> bool
+    pub(crate) fn has_member(&self, desk: &Name, user: &Name) -> bool
         ensures { result ≡ unwrap_or (get same_on self.now.members (on_desk desk.now user.now)) false }
     {
         let key = OnDesk {

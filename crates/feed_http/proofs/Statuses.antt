@@ -21,6 +21,8 @@ use Rattle.news_types.specs.declared.story.Incoming.{Incoming}
 use Rattle.desk_lines.specs.declared.asked.Asked.{Asked}
 use Rattle.desk_lines.specs.declared.property.LineProperty.{LineProperty}
 use Rattle.desk_lines.specs.declared.lines.PackageRequest.{PackageRequest}
+use Rattle.desk_lines.specs.Forms.{among}
+use Rattle.desk_lines.specs.Words.{register_words}
 use Rattle.desk_lines.specs.Lines.{request_body, receipt_body, archive_body, package_body, reach_body}
 use Rattle.archive_search.specs.declared.told.Told as archive
 use Rattle.archive_search.specs.declared.told.Told.TheVariants.{Found, Refused}
@@ -41,7 +43,7 @@ use Rattle.desk_routes.specs.declared.ask.HttpAsked.TheVariants.{By, Metrics}
 use Rattle.desk_routes.specs.declared.ask.Refusal.{Refusal}
 use Rattle.desk_routes.specs.declared.ask.Refusal.TheVariants.{NoRoute, NoCaller, BadPath, BadBody, BadItem, Memory}
 use Rattle.desk_routes.specs.declared.response.Response.{Response}
-use Rattle.desk_routes.specs.Asking.{◌>>=◌, or_refused, name_at, number_at, from_line, from_item, from_package, from_targets, ask_by, asking, asked_by}
+use Rattle.desk_routes.specs.Asking.{◌>>=◌, or_refused, name_at, number_at, register_at, from_line, from_item, from_package, from_targets, ask_by, asking, asked_by}
 use Rattle.desk_routes.specs.Rights.{right_of, may_ask}
 use Rattle.desk_routes.specs.Responses.{denial_status, answered_response, answer_response, refusal_response}
 use Rattle.desk_questions.specs.declared.answer.DeskTold as desk
@@ -86,6 +88,9 @@ targets_none : (item : ℕ) (read : Result (List Bytes) LineProperty) → NoMemo
 targets_none item (Ok targets) = tt
 targets_none item (Err property) = tt
 
+register_none : (path : Bytes) → NoMemory (register_at 2 path)
+register_none path = then_none (name_at 2 path) _ (path_none _) (λ word. path_none (among register_words word))
+
 ask_none : (route : Route) (caller path body : Bytes) → NoMemory (ask_by route caller path body)
 ask_none the.Requests caller path body = line_none (request_body caller body)
 ask_none the.Item caller path body = then_none (number_at 2 path) _ (path_none _) (λ item. tt)
@@ -102,6 +107,9 @@ ask_none the.DeskItemsBelow caller path body = then_none (name_at 2 path) _ (pat
 ask_none the.Reach caller path body = then_none (number_at 2 path) _ (path_none _) (λ item. tt)
 ask_none the.ReachOfTargets caller path body = then_none (number_at 2 path) _ (path_none _) (λ item. targets_none item (reach_body body))
 ask_none the.Publication caller path body = then_none (number_at 2 path) _ (path_none _) (λ number. tt)
+ask_none the.Things caller path body = then_none (register_at 2 path) _ (register_none path) (λ kind. tt)
+ask_none the.ThingsAfter caller path body = then_none (register_at 2 path) _ (register_none path) (λ kind. then_none (name_at 4 path) _ (path_none _) (λ after. tt))
+ask_none the.PublicationsAfter caller path body = then_none (number_at 2 path) _ (path_none _) (λ item. then_none (number_at 5 path) _ (path_none _) (λ after. tt))
 ask_none the.Metrics caller path body = tt
 
 route_none : (found : Option Route) → NoMemory (or_refused NoRoute found)

@@ -10,7 +10,8 @@ use Rattle.news_types.specs.Due.{Pub, release_to}
 use Rattle.news_types.specs.Publications.{pubs, standing}
 use Rattle.news_types.specs.Feeds.{Dispatch, dispatch, inserted, put, due_to, is_out, is_waiting, feed, waiting}
 use Rattle.news_types.specs.Delivery.{acked}
-use Rattle.feed_reasons.specs.Courses.{NotDue, Waits, Sent, numbered, due_of, place_from, place, sent_as, course_by, course}
+use Rattle.feed_reasons.specs.declared.course.Course.TheVariants.{NotDue, Waits, Sent}
+use Rattle.feed_reasons.specs.Courses.{numbered, due_of, place_from, place, sent_as, course_by, course}
 use Rattle.feed_reasons.specs.Laws.{IsAmong, IsEntry, NotDueIsSaid, SentIsEntry, WaitsAsSaid}
 
 -- ---- one of the dispatches

@@ -1,5 +1,5 @@
 -- What becomes of a publication for a subscriber.
-use Rattle.std.specs.Prelude.{ℕ, ◌+◌, Bool, ◌==◌, nat_le, nat_lt, List, [], ◌∷◌, if◌then◌else◌, Option, Some, None}
+use Rattle.std.specs.Prelude.{ℕ, ◌+◌, ◌==◌, nat_le, nat_lt, List, [], ◌∷◌, if◌then◌else◌, Option, Some, None}
 use Rattle.std.specs.List.{find}
 use Rattle.news_types.specs.Names.{Bytes}
 use Rattle.news_types.specs.History.{History, moment}
@@ -7,12 +7,8 @@ use Rattle.news_types.specs.Due.{Pub, release_to}
 use Rattle.news_types.specs.Publications.{pubs, standing}
 use Rattle.news_types.specs.Feeds.{Dispatch, feed}
 use Rattle.news_types.specs.Delivery.{acked}
-
-pub data Course : Type 0 where
-  NotDue : Course  -- it was not due to the subscriber when it was made
-  TakenBack : Course  -- it was due, and was taken back before its release to the subscriber
-  Waits : ℕ → Course  -- up to this moment
-  Sent : ℕ → Bool → Course  -- as this entry of the feed, and whether that is acknowledged
+use Rattle.feed_reasons.specs.declared.course.Course.{Course}
+use Rattle.feed_reasons.specs.declared.course.Course.TheVariants.{NotDue, TakenBack, Waits, Sent}
 
 abbrev pub numbered : ℕ → List Pub → Option Pub
 numbered n ps = find (λ (p : Pub). p.number == n) ps

@@ -15,7 +15,8 @@ use Rattle.news_types.specs.Delivery.{acked}
 use Rattle.feed_reasons.specs.declared.verdict.Verdict.{Verdict}
 use Rattle.feed_reasons.specs.declared.verdict.Verdict.TheVariants.{NoSubscriber, Inactive, NotTarget, Blocked, Permitted, Refused}
 use Rattle.feed_reasons.specs.Verdicts.{verdict, says_permitted, stops, passes, refusals}
-use Rattle.feed_reasons.specs.Courses.{NotDue, Waits, Sent, course, numbered}
+use Rattle.feed_reasons.specs.declared.course.Course.TheVariants.{NotDue, Waits, Sent}
+use Rattle.feed_reasons.specs.Courses.{course, numbered}
 use Rattle.feed_reasons.specs.Reasons.{Reasons, reasons, says_due}
 
 -- ---- what is permitted

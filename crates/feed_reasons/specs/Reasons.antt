@@ -9,7 +9,8 @@ use Rattle.news_types.specs.Items.{Item}
 use Rattle.news_types.specs.Publications.{pubs, standing, item}
 use Rattle.feed_reasons.specs.declared.verdict.Verdict.{Verdict}
 use Rattle.feed_reasons.specs.Verdicts.{verdict, says_permitted}
-use Rattle.feed_reasons.specs.Courses.{Course, course, numbered}
+use Rattle.feed_reasons.specs.declared.course.Course.{Course}
+use Rattle.feed_reasons.specs.Courses.{course, numbered}
 
 -- the list behind which publication n was made
 abbrev pub made_behind : ℕ → History → History

@@ -3,8 +3,10 @@
 //! The definitions read the list of accepted entries. The tables in the crates above answer by them.
 #![tactic(auto)]
 
+mod course;
 mod laws;
 mod verdict;
 
+pub use course::Course;
 pub use laws::why_law;
 pub use verdict::{Refusal, Refusals, Verdict};

@@ -3,12 +3,12 @@
 use crate::print_fault;
 use desk_answers::word_of_state;
 use desk_lines::read_reach_body;
-use desk_views::DeskQuestion;
+use desk_views::{DeskQuestion, Register};
 use news_types::{Name, Names, State};
 use std::io;
 
-/// Prints a question of a desk: the desk, the number, the state and the user, or the item and the targets. What is not given is
-/// a dash.
+/// Prints a question of a desk: the desk, the number, the state and the user; the kind of things and a name; the item and the
+/// targets; or the item and the number. What is not given is a dash.
 pub(crate) fn print_desk(rt: &impl Print, question: &DeskQuestion) -> io::Result<()> {
     match question {
         DeskQuestion::Items {
@@ -22,10 +22,14 @@ pub(crate) fn print_desk(rt: &impl Print, question: &DeskQuestion) -> io::Result
             state_or_dash(state),
             name_or_dash(user)
         ),
+        DeskQuestion::Things { of, after } => {
+            println!(rt; "things {} {}", word_of_register(*of), name_or_dash(after))
+        }
         DeskQuestion::Reach { item, targets } => {
             print!(rt; "reach {item}")?;
             print_names(rt, targets)
         }
+        DeskQuestion::Publications { item, after } => println!(rt; "publications {item} {after}"),
     }
 }
 
@@ -58,5 +62,18 @@ fn state_or_dash(state: &Option<State>) -> &'static str {
     match state {
         None => "-",
         Some(state) => word_of_state(*state),
+    }
+}
+
+fn word_of_register(register: Register) -> &'static str {
+    match register {
+        Register::Users => "users",
+        Register::Desks => "desks",
+        Register::Conditions => "conditions",
+        Register::Filters => "filters",
+        Register::Products => "products",
+        Register::Subscribers => "subscribers",
+        Register::Schemes => "schemes",
+        Register::Providers => "providers",
     }
 }

@@ -5,17 +5,22 @@ use Rattle.std.proofs.lemmas.List.{map-append, length-map, length-take-le, take_
 use Rattle.news_types.specs.declared.entry.Entry.{Entry}
 use Rattle.news_types.specs.Names.{Bytes}
 use Rattle.news_types.specs.History.{History}
+use Rattle.news_types.specs.declared.entry.Reply.{Reply}
+use Rattle.news_types.specs.declared.entry.Act.{Act}
+use Rattle.news_types.specs.declared.entry.Act.TheVariants as act
 use Rattle.news_types.specs.Legal.{IsLegal}
+use Rattle.news_types.specs.Outcome.{reply_to}
 use Rattle.news_io.specs.declared.record.Record.{Record}
 use Rattle.byte_formats.specs.Faults.{IsFaultAt}
 use Rattle.entry_codec.specs.Spelling.{entry_bytes}
 use Rattle.entry_codec.specs.Formed.{IsEntry}
 use Rattle.newsroom.specs.declared.newsroom.Newsroom.{Newsroom}
 use Rattle.newsroom.specs.Stands.{store_of}
+use Rattle.newsroom.specs.Acts.{IsSmall}
 use Rattle.news_types.specs.Doubt.{payloads}
 use Rattle.news_room.specs.Log.{IsStored}
 use Rattle.news_room.specs.Stands.{Tells}
-use Rattle.news_room.specs.Opening.{bytes_of, damaged_in, IsDamage, IsFault, HasRead, Takes, IsRefused, Keeps, IsOpened}
+use Rattle.news_room.specs.Opening.{bytes_of, damaged_in, IsDamage, IsFault, HasRead, HasTaken, Takes, IsRefused, Keeps, IsOpened, replies_plainly}
 use Rattle.news_room.specs.declared.answers.RoomFault.{RoomFault}
 use Rattle.news_room.specs.declared.room.Room.{Room}
 use Rattle.news_room.proofs.Lists.{counted}
@@ -61,13 +66,27 @@ refused_told h r e at found is entry told = inr (record {
   found_is = told.found_is;
 })
 
-pub entry_told : (n : Newsroom) (h : History) (r : Record) (payload : Bytes) (e : Entry) (kept : Result (Unit {0}) RoomFault) → payload ≡ r.bytes → IsEntry e → payload ≡ entry_bytes e
+pub entry_told : (n : Newsroom) (h : History) (r : Record) (payload : Bytes) (e : Entry) (kept : Result Reply RoomFault) → payload ≡ r.bytes → IsEntry e → payload ≡ entry_bytes e
     → IsStored h → Keeps n h r e kept → Takes n h r kept
-entry_told n h r payload e (Ok u) same entry is before told =
-    (e, sym same ∙ is, record { legal = told.0; formed = (entry, before.formed) }, told.1)
+entry_told n h r payload e (Ok reply) same entry is before told = record {
+  entry = e;
+  is = sym same ∙ is;
+  kept = record { legal = told.legal; formed = (entry, before.formed) };
+  stands = told.stands;
+  reply_is = told.reply_is;
+}
 entry_told n h r payload e (Err (RoomFault.Damaged at found)) same entry is before told = (told.0, refused_told h r e at found (sym same ∙ is) entry told.1)
 entry_told n h r payload e (Err (RoomFault.DamagedSide at found)) same entry is before told = (told.0, refused_told h r e at found (sym same ∙ is) entry told.1)
 entry_told n h r payload e (Err RoomFault.Memory) same entry is before told = tt
+
+-- the reply to one of the server's own acts
+pub small_reply : (h : History) (m : ℕ) (a : Act) → IsSmall a → reply_to h m a ≡ replies_plainly (length h + 1)
+small_reply h m act.Advance is = refl
+small_reply h m (act.Attempt s k) is = refl
+small_reply h m (act.Receipt s n) is = refl
+small_reply h m act.Halt is = refl
+small_reply h m (act.Ingest name come) is = absurd is
+small_reply h m (act.Request caller number command) is = absurd is
 
 -- ---- the records so far
 
@@ -86,12 +105,12 @@ module _ (records : List Record) (i : ℕ) where
     one_more =
         ap (map bytes_of) (take_more records i r lt ∙ ap (λ (x : Record). take i records ++ x ∷ []) (sym is)) ∙ map-append bytes_of (take i records) (r ∷ [])
 
-    pub read_more : (n n' : Newsroom) (h : History) → HasRead n before h → Takes n' h r (Ok tt)
-        → (g : History) × HasRead n' (map bytes_of (take (i + 1) records)) g
-    read_more n n' h read told =
-        let e = told.0 in
-        let next : before ++ r.bytes ∷ [] ≡ payloads entry_bytes h ++ entry_bytes e ∷ [] = ap (λ (l : List Bytes). l ++ r.bytes ∷ []) read.opens.is ∙ ap (λ (b : Bytes). payloads entry_bytes h ++ b ∷ []) told.1 in
-        (e ∷ h, record { opens = record { is = one_more ∙ next; kept = told.2 }; stands = told.3 })
+    pub read_on : (n n' : Newsroom) (h : History) (reply : Reply) → HasRead n before h → (told : HasTaken n' h r reply)
+        → HasRead n' (map bytes_of (take (i + 1) records)) (told.entry ∷ h)
+    read_on n n' h reply read told =
+        let e = told.entry in
+        let next : before ++ r.bytes ∷ [] ≡ payloads entry_bytes h ++ entry_bytes e ∷ [] = ap (λ (l : List Bytes). l ++ r.bytes ∷ []) read.opens.is ∙ ap (λ (b : Bytes). payloads entry_bytes h ++ b ∷ []) told.is in
+        record { opens = record { is = one_more ∙ next; kept = told.kept }; stands = told.stands }
 
     here : records ≡ take i records ++ r ∷ drop (suc i) records
     here = sym (take-append-drop i records) ∙ ap (λ (l : List Record). take i records ++ l) (drop-cons records i r lt ∙ ap (λ (x : Record). x ∷ drop (suc i) records) (sym is))

@@ -1,9 +1,11 @@
--- What opening a room from records answers.
+-- What taking the records of a list answers, and what opening a room from them.
 use Rattle.std.specs.Prelude.{◌≡◌, ◌⊎◌, ℕ, ◌+◌, Bool, true, false, List, ◌∷◌, ◌++◌, map, slice_get, Option, Some, Result, Ok, Err}
 use Rattle.news_types.specs.declared.entry.Entry.{Entry}
 use Rattle.news_types.specs.Names.{Bytes}
 use Rattle.news_types.specs.History.{History}
+use Rattle.news_types.specs.declared.entry.Reply.{Reply}
 use Rattle.news_types.specs.Legal.{IsLegal}
+use Rattle.news_types.specs.Outcome.{reply_to}
 use Rattle.news_io.specs.declared.record.Record.{Record}
 use Rattle.byte_formats.specs.Faults.{IsFaultAt}
 use Rattle.entry_codec.specs.Spelling.{entry_bytes}
@@ -13,6 +15,7 @@ use Rattle.newsroom.specs.declared.newsroom.Newsroom.{Newsroom}
 use Rattle.news_room.specs.Log.{IsStored, OpensTo}
 use Rattle.news_room.specs.Stands.{Tells, Stands}
 use Rattle.news_room.specs.declared.answers.RoomFault.{RoomFault}
+use Rattle.news_room.specs.declared.replay.Replay.{Replay}
 use Rattle.news_room.specs.declared.room.Room.{Room}
 use Rattle.news_io.specs.Keeper.{KeeperMeaning}
 
@@ -64,9 +67,21 @@ pub record HasRead (n : Newsroom) (records : List Bytes) (h : History) : Type 0 
   pub opens : OpensTo records h
   pub stands : StandsFor n h
 
+-- the reply to an act that makes, changes and publishes nothing, at this place of the list
+abbrev pub replies_plainly : ℕ → Reply
+replies_plainly place = record { entry = place; item = 0; publication = 0; release = 0 }
+
+-- the machine has taken one more record behind the list: it stands for the list with the record's entry, and this is the reply to that
+pub record HasTaken (n : Newsroom) (h : History) (r : Record) (reply : Reply) : Type 0 where
+  pub entry : Entry
+  pub is : r.bytes ≡ entry_bytes entry
+  pub kept : IsStored (entry ∷ h)
+  pub stands : StandsFor n (entry ∷ h)
+  pub reply_is : reply ≡ reply_to h entry.moment entry.act
+
 -- what one more record is to a machine that stands for a list
-abbrev pub Takes : Newsroom → History → Record → Result (Unit {0}) RoomFault → Type 0
-Takes n h r (Ok u) = (e : Entry) × (r.bytes ≡ entry_bytes e) × IsStored (e ∷ h) × StandsFor n (e ∷ h)
+abbrev pub Takes : Newsroom → History → Record → Result Reply RoomFault → Type 0
+Takes n h r (Ok reply) = HasTaken n h r reply
 Takes n h r (Err (RoomFault.Damaged at found)) = (r.side ≡ false) × IsDamage h r at found
 Takes n h r (Err (RoomFault.DamagedSide at found)) = (r.side ≡ true) × IsDamage h r at found
 Takes n h r (Err RoomFault.Memory) = Unit {0}
@@ -77,15 +92,21 @@ pub record IsRefused (h : History) (r : Record) (e : Entry) (at : ℕ) (found : 
   pub at_is : at ≡ r.at
   pub found_is : found ≡ Some 1
 
-abbrev pub Keeps : Newsroom → History → Record → Entry → Result (Unit {0}) RoomFault → Type 0
-Keeps n h r e (Ok u) = IsLegal (e ∷ h) × StandsFor n (e ∷ h)
+-- it may follow: the machine stands for the list with it, and this is the reply to it
+pub record HasKept (n : Newsroom) (h : History) (e : Entry) (reply : Reply) : Type 0 where
+  pub legal : IsLegal (e ∷ h)
+  pub stands : StandsFor n (e ∷ h)
+  pub reply_is : reply ≡ reply_to h e.moment e.act
+
+abbrev pub Keeps : Newsroom → History → Record → Entry → Result Reply RoomFault → Type 0
+Keeps n h r e (Ok reply) = HasKept n h e reply
 Keeps n h r e (Err (RoomFault.Damaged at found)) = (r.side ≡ false) × IsRefused h r e at found
 Keeps n h r e (Err (RoomFault.DamagedSide at found)) = (r.side ≡ true) × IsRefused h r e at found
 Keeps n h r e (Err RoomFault.Memory) = Unit {0}
 
 -- what the records are to a machine
-abbrev pub Reads : List Record → Result Newsroom RoomFault → Type 0
-Reads records (Ok n) = (h : History) × HasRead n (map bytes_of records) h
+abbrev pub Reads : List Record → Result Replay RoomFault → Type 0
+Reads records (Ok replay) = (h : History) × HasRead replay.machine (map bytes_of records) h
 Reads records (Err fault) = IsFault records fault
 
 -- the room stands for the list of the records, in this store; told, where the keeper tells that list

@@ -10,9 +10,11 @@ mod answers;
 mod claim;
 mod laws;
 mod opening;
+mod replay;
 mod room;
 
 pub use answers::{Handled, Kept, RoomFault, Ticked};
 pub use claim::Claimed;
 pub use laws::completeness_law;
+pub use replay::Replay;
 pub use room::Room;

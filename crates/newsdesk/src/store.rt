@@ -29,7 +29,13 @@ pub enum Keeping {
 pub fn keeping_of(job: Job<'_>) -> Keeping {
     match job {
         Job::Drill { .. } => Keeping::Nothing,
-        Job::Check | Job::Archive { .. } | Job::Contents(_) | Job::Ship(_) => Keeping::Reads,
+        Job::Check
+        | Job::Archive { .. }
+        | Job::Contents(_)
+        | Job::Audit(_)
+        | Job::Ask(_)
+        | Job::Why { .. }
+        | Job::Ship(_) => Keeping::Reads,
         Job::Pack => Keeping::Packs,
         Job::Init(_) | Job::StandIn(_) => Keeping::Makes,
         Job::Receive(_) => Keeping::MakesLog,

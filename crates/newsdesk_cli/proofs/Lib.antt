@@ -1,5 +1,6 @@
 pub mod Outputs
 pub mod Commands
+pub mod Looking
 pub mod Packing
 pub mod FilesLeft
 pub mod Statuses
@@ -8,6 +9,7 @@ pub mod Importing
 pub mod Packaging
 pub mod Links
 pub mod Shipping
+pub mod Asking
 pub mod Serving
 pub mod Reporting
 pub mod Draining

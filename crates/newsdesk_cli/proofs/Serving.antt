@@ -1,6 +1,5 @@
 -- A store that holds a list is served.
 use Rattle.std.proofs.Common.{◌≡◌, inl, inr, ℕ, ◌+◌, true, List, Option, Some, None, length, refl, sym, ◌∙◌, subst, arith}
-use Rattle.std.specs.Prelude.{Result, Ok, Err}
 use Rattle.news_types.specs.Books.{Book, onto}
 use Rattle.news_types.specs.Names.{Bytes}
 use Rattle.news_types.specs.declared.entry.Entry.{Entry}
@@ -15,9 +14,6 @@ use Rattle.news_io.specs.Source.{SourceMeaning}
 use Rattle.input_lines.specs.Lines.{ended, lines}
 use Rattle.line_run.specs.Life.{Meaning}
 use Rattle.line_run.specs.Run.{Ends}
-use Rattle.line_run.specs.Status as run
-use Rattle.line_run.specs.declared.ending.Ending.{Ending}
-use Rattle.line_run.specs.declared.ending.Ending.TheVariants as end
 use Rattle.news_pair.specs.Keeper.{pair_of}
 use Rattle.news_pair.specs.declared.pair.Pair.{Pair}
 use Rattle.news_pair.specs.declared.pack_fault.PackFault.{PackFault}
@@ -36,24 +32,28 @@ use Rattle.wire_run.specs.Decided.{decided}
 use Rattle.wire_run.specs.Members.{of_found, of_item, one_item, no_item}
 use Rattle.store_files.specs.Store.{Opens}
 use Rattle.run_status.specs.Status.{number_of}
+use Rattle.told_entries.specs.Entries.{audit}
+use Rattle.list_runs.specs.Why.{why_line}
 use Rattle.store_files.specs.Trouble.{status_of, trouble_of_pack}
 use Rattle.store_files.proofs.Serving.{served}
 use Rattle.newsdesk_cli.specs.Archive.{IsAsked}
-use Rattle.newsdesk_cli.specs.Command.{check_line, IsServed, Serves, HasAnswered, IsReportOf, IsDrain, Does}
+use Rattle.newsdesk_cli.specs.Command.{check_line, IsServed, IsAskServed, Serves, HasAnswered, IsReportOf, IsDrain, Does}
 use Rattle.newsdesk_cli.specs.Imports.{IsImportOf}
+use Rattle.newsdesk_cli.specs.Lists.{IsAsk}
 use Rattle.newsdesk_cli.specs.Opened.{NotOpened}
 use Rattle.newsdesk_cli.specs.Packages.{IsPackageOf}
 use Rattle.newsdesk_cli.specs.Telling.{IsTold, IsAnswered}
 use Rattle.newsdesk_cli.specs.Packing.{packed_line}
 use Rattle.command_words.specs.declared.words.Job.{Job}
-use Rattle.command_words.specs.declared.words.Job.TheVariants.{Init, Batch, Ingest, Import, Package, Feed, Queue, Archive, Contents, Drain, Receive, Ship, StandIn, Drill, Check, Pack}
+use Rattle.command_words.specs.declared.words.Job.TheVariants.{Init, Batch, Ingest, Import, Package, Feed, Queue, Archive, Contents, Audit, Ask, Why, Drain, Receive, Ship, StandIn, Drill, Check, Pack}
+use Rattle.newsdesk_cli.proofs.Asking.{one_length, written_served, asked_served_at}
 use Rattle.newsdesk_cli.proofs.Commands.{rose_along}
 use Rattle.newsdesk_cli.proofs.Draining.{drain_else, drain_failed}
 use Rattle.newsdesk_cli.proofs.Importing.{import_served}
 use Rattle.newsdesk_cli.proofs.Packaging.{package_served}
 use Rattle.newsdesk_cli.proofs.Reporting.{reported_else}
 use Rattle.newsdesk_cli.proofs.Shipping.{over_served}
-use Rattle.newsdesk_cli.proofs.Statuses.{others, by_trouble}
+use Rattle.newsdesk_cli.proofs.Statuses.{others, by_trouble, by_run}
 
 -- ---- statuses
 
@@ -62,15 +62,6 @@ by_pack fault.DiskFault before now status whole counts is = others before now 6 
 by_pack (fault.Full size count) before now status whole counts is = others before now 8 status (λ s. absurd (omega (arith, s))) (λ s. absurd (omega (arith, s))) (λ s. absurd (omega (arith, s))) is
 by_pack (fault.Damaged at found) before now status whole counts is = absurd (whole tt)
 by_pack fault.Memory before now status whole counts is = others before now 9 status (λ s. absurd (omega (arith, s))) (λ s. absurd (omega (arith, s))) (λ s. absurd (omega (arith, s))) is
-
-by_run : (r : Result (Unit {0}) Ending) (before now status : ℕ) → (r ≡ Err end.Store → Rose before now) → status ≡ number_of (run.status_of r) → IsServed before now status
-by_run (Ok u) before now status rose is = others before now 0 status (λ s. absurd (omega (arith, s))) (λ s. absurd (omega (arith, s))) (λ s. absurd (omega (arith, s))) is
-by_run (Err end.Read) before now status rose is = others before now 4 status (λ s. absurd (omega (arith, s))) (λ s. absurd (omega (arith, s))) (λ s. absurd (omega (arith, s))) is
-by_run (Err end.Write) before now status rose is = others before now 5 status (λ s. absurd (omega (arith, s))) (λ s. absurd (omega (arith, s))) (λ s. absurd (omega (arith, s))) is
-by_run (Err end.Store) before now status rose is = others before now 6 status (λ s. absurd (omega (arith, s))) (λ s. absurd (omega (arith, s))) (λ s. rose refl) is
-by_run (Err end.Full) before now status rose is = others before now 8 status (λ s. absurd (omega (arith, s))) (λ s. absurd (omega (arith, s))) (λ s. absurd (omega (arith, s))) is
-by_run (Err end.Memory) before now status rose is = others before now 9 status (λ s. absurd (omega (arith, s))) (λ s. absurd (omega (arith, s))) (λ s. absurd (omega (arith, s))) is
-by_run (Err end.TooLong) before now status rose is = others before now 12 status (λ s. absurd (omega (arith, s))) (λ s. absurd (omega (arith, s))) (λ s. absurd (omega (arith, s))) is
 
 -- ---- commands
 
@@ -132,6 +123,11 @@ module _ {D O S C : Type 0} (disk : DiskMeaning D) (clock : ClockMeaning C) (sou
   packaged caller number (inl not) = not_opened not.why
   packaged caller number (inr a) = package_served disk clock source sink caller number log side a.went.room a.went.after c c' i i' o o' status a.went.opened log' side' a.went.same a.went.same_side a.published
 
+  asked : (entries : ℕ) → IsAsk disk source sink entries log log' side side' i i' o o' status → IsAskServed Before Now entries h status
+  asked entries (inl not) = let s = not_opened not.why in record { own = λ is. absurd (s.own is); whole = s.whole; failed = s.failed }
+  asked entries (inr done) =
+      asked_served_at (pair_of disk) source sink entries i i' o o' status h done.opened.history (one_length (disk.seen log) (disk.seen side) store done.opened.store h done.opened.history long done.opened.long opens (done.opened.bytes told told')) Before Now done.told
+
   drained : {L : Type 0} (link : LinkMeaning L) (l l' : List L) → IsDrain disk clock sink log log' side side' o o' c c' status link l l' → IsServed Before Now status
   drained link l l' (inl not) = not_opened not.why.why
   drained link l l' (inr a) = record {
@@ -142,7 +138,7 @@ module _ {D O S C : Type 0} (disk : DiskMeaning D) (clock : ClockMeaning C) (sou
         (drain_failed _ _ (end_of_all a.drained.drains) a.drained.store_faults (sym a.drained.status_is ∙ is));
   }
 
-  pub serves : {L : Type 0} (link : LinkMeaning L) (l l' : List L) (job : Option Job) → Does disk clock source sink link log log' side side' i i' o o' c c' l l' status job → Serves Before Now job status
+  pub serves : {L : Type 0} (link : LinkMeaning L) (l l' : List L) (job : Option Job) → Does disk clock source sink link log log' side side' i i' o o' c c' l l' status job → Serves Before Now h job status
   serves link l l' None did = tt
   serves link l l' (Some (Init made)) did = tt
   serves link l l' (Some Batch) (inl not) = not_opened not.why
@@ -160,6 +156,9 @@ module _ {D O S C : Type 0} (disk : DiskMeaning D) (clock : ClockMeaning C) (sou
   serves link l l' (Some Check) did = elim did.1 [ inl not ↦ not_opened not | inr done ↦ answer_served sink o o' Before Now status (check_line done.opened.history) done.told ]
   serves link l l' (Some (Archive page query)) did = elim did.1 [ inl not ↦ not_opened not | inr done ↦ asked_served sink o o' Before Now status done.opened.history page query done.told ]
   serves link l l' (Some (Contents publication)) did = elim did.1 [ inl not ↦ not_opened not | inr done ↦ answer_served sink o o' Before Now status (contents_report done.opened.history done.opened.store publication) done.told ]
+  serves link l l' (Some (Audit after)) did = elim did.1 [ inl not ↦ not_opened not | inr done ↦ written_served sink (audit after done.opened.history) o o' Before Now status done.told ]
+  serves link l l' (Some (Ask entries)) did = asked entries did.1
+  serves link l l' (Some (Why publication subscriber)) did = elim did.1 [ inl not ↦ not_opened not | inr done ↦ written_served sink (why_line done.opened.history publication subscriber) o o' Before Now status done.told ]
   serves link l l' (Some (Import caller)) did = taken caller did
   serves link l l' (Some (Package caller number)) did = packaged caller number did
   serves link l l' (Some Pack) did = elim did.1 [

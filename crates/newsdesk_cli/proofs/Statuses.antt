@@ -1,10 +1,11 @@
 -- The statuses of a command: those that are never told of a store that holds a list, and those that come where nothing failed.
-use Rattle.std.proofs.Common.{◌≡◌, inl, inr, ℕ, ◌+◌, ◌≤◌, ◌<◌, [], length, length-append, sym, ◌∙◌, ap, arith}
-use Rattle.std.specs.Prelude.{Err}
+use Rattle.std.proofs.Common.{◌≡◌, inl, inr, ℕ, ◌+◌, ◌≤◌, ◌<◌, [], length, length-append, refl, sym, ◌∙◌, ap, arith}
+use Rattle.std.specs.Prelude.{Result, Ok, Err}
 use Rattle.news_types.specs.Names.{Bytes}
 use Rattle.news_io.specs.Faults.{Rose}
 use Rattle.news_io.specs.Sink.{SinkMeaning}
 use Rattle.news_io.specs.Source.{SourceMeaning}
+use Rattle.line_run.specs.Status as run
 use Rattle.line_run.specs.Status.{IsComplete, status_by}
 use Rattle.line_run.specs.declared.ending.Ending.{Ending}
 use Rattle.line_run.specs.declared.ending.Ending.TheVariants as end
@@ -29,6 +30,16 @@ by_trouble (trouble.Damaged at found) before now status outside count is = absur
 by_trouble (trouble.DamagedSide at found) before now status outside count is = absurd outside
 by_trouble trouble.Full before now status outside count is = absurd outside
 by_trouble trouble.Memory before now status outside count is = others before now 9 status (λ s. absurd (omega (arith, s))) (λ s. absurd (omega (arith, s))) (λ s. absurd (omega (arith, s))) is
+
+-- what ended a run
+pub by_run : (r : Result (Unit {0}) Ending) (before now status : ℕ) → (r ≡ Err end.Store → Rose before now) → status ≡ number_of (run.status_of r) → IsServed before now status
+by_run (Ok u) before now status rose is = others before now 0 status (λ s. absurd (omega (arith, s))) (λ s. absurd (omega (arith, s))) (λ s. absurd (omega (arith, s))) is
+by_run (Err end.Read) before now status rose is = others before now 4 status (λ s. absurd (omega (arith, s))) (λ s. absurd (omega (arith, s))) (λ s. absurd (omega (arith, s))) is
+by_run (Err end.Write) before now status rose is = others before now 5 status (λ s. absurd (omega (arith, s))) (λ s. absurd (omega (arith, s))) (λ s. absurd (omega (arith, s))) is
+by_run (Err end.Store) before now status rose is = others before now 6 status (λ s. absurd (omega (arith, s))) (λ s. absurd (omega (arith, s))) (λ s. rose refl) is
+by_run (Err end.Full) before now status rose is = others before now 8 status (λ s. absurd (omega (arith, s))) (λ s. absurd (omega (arith, s))) (λ s. absurd (omega (arith, s))) is
+by_run (Err end.Memory) before now status rose is = others before now 9 status (λ s. absurd (omega (arith, s))) (λ s. absurd (omega (arith, s))) (λ s. absurd (omega (arith, s))) is
+by_run (Err end.TooLong) before now status rose is = others before now 12 status (λ s. absurd (omega (arith, s))) (λ s. absurd (omega (arith, s))) (λ s. absurd (omega (arith, s))) is
 
 -- a text was told at the end
 module _ {O : Type 0} (sink : SinkMeaning O) (text : Bytes) (o o' : O) (status : ℕ) where

@@ -1,5 +1,5 @@
 -- What each command does to the log, its side and the output, and with which status it ends.
-use Rattle.std.specs.Prelude.{◌≡◌, ◌⊎◌, ◌≤◌, ℕ, ◌+◌, Bool, true, List, [], ◌∷◌, ◌++◌, length, Option, Some, None}
+use Rattle.std.specs.Prelude.{◌≡◌, ◌⊎◌, ◌≤◌, ◌<◌, ℕ, ◌+◌, Bool, true, List, [], ◌∷◌, ◌++◌, length, Option, Some, None}
 use Rattle.news_types.specs.declared.query.Query.TheVariants as query
 use Rattle.news_types.specs.declared.words.Format.{Format}
 use Rattle.news_types.specs.Books.{Book}
@@ -34,6 +34,7 @@ use Rattle.newsdesk_cli.specs.Telling.{IsStopped, IsTold, IsAnswered, IsRefusedU
 use Rattle.newsdesk_cli.specs.Opened.{NotOpened, IsLook, HasGoneOn, NotBegun}
 use Rattle.newsdesk_cli.specs.Archive.{IsArchive}
 use Rattle.newsdesk_cli.specs.Imports.{IsImportOf}
+use Rattle.newsdesk_cli.specs.Lists.{IsAudit, IsAsk, IsWhy}
 use Rattle.newsdesk_cli.specs.Packages.{IsPackageOf, IsContents}
 use Rattle.newsdesk_cli.specs.Standby.{ShipsOver}
 use Rattle.room_runs.specs.Lines.{no_frames, LONGEST_INPUT}
@@ -56,7 +57,7 @@ use Rattle.run_status.specs.declared.status.Status.{Status}
 use Rattle.store_files.specs.Trouble.{trouble_of_pack}
 use Rattle.store_files.specs.declared.trouble.Trouble.TheVariants as trouble
 use Rattle.command_words.specs.declared.words.Job.{Job}
-use Rattle.command_words.specs.declared.words.Job.TheVariants.{Init, Batch, Ingest, Import, Package, Feed, Queue, Archive, Contents, Drain, Receive, Ship, StandIn, Drill, Check, Pack}
+use Rattle.command_words.specs.declared.words.Job.TheVariants.{Init, Batch, Ingest, Import, Package, Feed, Queue, Archive, Contents, Audit, Ask, Why, Drain, Receive, Ship, StandIn, Drill, Check, Pack}
 
 -- how many entries and publications a list has, as a line
 abbrev pub check_line : History → List ℕ
@@ -216,6 +217,9 @@ module _ {D O S C L : Type 0} (disk : DiskMeaning D) (clock : ClockMeaning C) (s
   Does (Some Check) = Unread × IsCheck disk sink log log' side side' o o' status
   Does (Some (Archive page query)) = Unread × IsArchive disk sink page query log log' side side' o o' status
   Does (Some (Contents publication)) = Unread × IsContents disk sink publication log log' side side' o o' status
+  Does (Some (Audit after)) = Unread × IsAudit disk sink after log log' side side' o o' status
+  Does (Some (Ask entries)) = (c' ≡ c) × IsAsk disk source sink entries log log' side side' i i' o o' status
+  Does (Some (Why publication subscriber)) = Unread × IsWhy disk sink publication subscriber log log' side side' o o' status
   Does (Some Pack) = Unread × IsPack disk sink log log' side side' o o' status
   Does (Some Batch) = IsBatch disk clock source sink log log' side side' i i' o o' c c' status
   Does (Some (Feed subscriber after)) = (i' ≡ i) × IsReportOf disk clock sink log log' side side' o o' c c' status (feed_report_at subscriber after)
@@ -235,25 +239,34 @@ pub record IsServed (before now status : ℕ) : Type 0 where
   pub whole : status ≡ 7 → ⊥
   pub failed : status ≡ 6 → Rose before now
 
--- what a command answers on files that hold a list
-abbrev pub Serves : ℕ → ℕ → Option Job → ℕ → Type 0
-Serves before now None status = Unit {0}
-Serves before now (Some (Init store)) status = Unit {0}
-Serves before now (Some Batch) status = IsServed before now status
-Serves before now (Some (Ingest format provider)) status = IsServed before now status
-Serves before now (Some (Import caller)) status = IsServed before now status
-Serves before now (Some (Package caller number)) status = IsServed before now status
-Serves before now (Some (Feed subscriber after)) status = IsServed before now status
-Serves before now (Some Queue) status = IsServed before now status
-Serves before now (Some (Archive page query)) status = IsServed before now status
-Serves before now (Some (Contents publication)) status = IsServed before now status
-Serves before now (Some Drain) status = IsServed before now status
-Serves before now (Some (Receive name)) status = Unit {0}
-Serves before now (Some (Ship name)) status = IsServed before now status
-Serves before now (Some (StandIn store)) status = Unit {0}
-Serves before now (Some (Drill stories seed)) status = Unit {0}
-Serves before now (Some Check) status = IsServed before now status
-Serves before now (Some Pack) status = IsServed before now status
+-- so it is with `ask`, but that it refuses a list that has not so many entries
+pub record IsAskServed (before now entries : ℕ) (h : History) (status : ℕ) : Type 0 where
+  pub own : status ≡ 3 → length h < entries
+  pub whole : status ≡ 7 → ⊥
+  pub failed : status ≡ 6 → Rose before now
+
+-- what a command answers on files that hold this list
+abbrev pub Serves : ℕ → ℕ → History → Option Job → ℕ → Type 0
+Serves before now h None status = Unit {0}
+Serves before now h (Some (Init store)) status = Unit {0}
+Serves before now h (Some Batch) status = IsServed before now status
+Serves before now h (Some (Ingest format provider)) status = IsServed before now status
+Serves before now h (Some (Import caller)) status = IsServed before now status
+Serves before now h (Some (Package caller number)) status = IsServed before now status
+Serves before now h (Some (Feed subscriber after)) status = IsServed before now status
+Serves before now h (Some Queue) status = IsServed before now status
+Serves before now h (Some (Archive page query)) status = IsServed before now status
+Serves before now h (Some (Contents publication)) status = IsServed before now status
+Serves before now h (Some (Audit after)) status = IsServed before now status
+Serves before now h (Some (Ask entries)) status = IsAskServed before now entries h status
+Serves before now h (Some (Why publication subscriber)) status = IsServed before now status
+Serves before now h (Some Drain) status = IsServed before now status
+Serves before now h (Some (Receive name)) status = Unit {0}
+Serves before now h (Some (Ship name)) status = IsServed before now status
+Serves before now h (Some (StandIn store)) status = Unit {0}
+Serves before now h (Some (Drill stories seed)) status = Unit {0}
+Serves before now h (Some Check) status = IsServed before now status
+Serves before now h (Some Pack) status = IsServed before now status
 
 -- what `receive` answers on a file that is empty or holds the receiver's frames
 abbrev pub ReceiverServes : List ℕ → ℕ → ℕ → Option Job → ℕ → Type 0

@@ -13,6 +13,8 @@ ghost use Rattle.command_words.specs.Words.{job_of};
 ghost use Rattle.newsdesk_cli.specs.Command.{IsInit, IsBatch, IsIngest, IsReportOf, IsDrain, IsDrilled, IsCheck, IsPack, Does, Serves, ReceiverServes, StandbyServes, UsesLinks};
 
 use crate::archive::ask_archive;
+use crate::ask::ask_past;
+use crate::audit::audit_list;
 use crate::check::check_line;
 use crate::contents::list_contents;
 use crate::import::take_table;
@@ -20,6 +22,7 @@ use crate::pack::tell_packed;
 use crate::package::take_package;
 use crate::standby::ship_list;
 use crate::telling::{tell_trouble, tell_usage};
+use crate::why::explain;
 use command_words::{Job, read_words};
 use feed_drill::run_drill;
 use news_io::{Clock, Disk, Failed, Keeper, Link, Sink, Source};
@@ -49,9 +52,10 @@ pub fn run<S: Source, O: Sink, D: Disk, C: Clock, L: Link>(
     links: &mut Vec<L>,
 ) -> (u8, D, D)
     ensures does { Does D.disk C.clock S.source O.sink L.link log result.1 side result.2 input.old input.new output.old output.new clock.old clock.new links.old.items links.new.items result.0 (job_of words.now) }
-    // Files that open to a list are never told to be another store's or damaged, and a failed disk is told only where one has failed.
+    // Files that open to a list are never told to be another store's, but where `ask` is given more entries than it has, nor damaged; and a
+    // failed disk is told only where one has failed.
     ensures serves { D.disk.tells log → D.disk.tells side → (store : Bytes) (h : History) → length store ≡ 16 → Opens (D.disk.seen log) (D.disk.seen side) store h
-        → Serves (D.disk.faults log + D.disk.faults side) (D.disk.faults result.1 + D.disk.faults result.2) (job_of words.now) result.0 }
+        → Serves (D.disk.faults log + D.disk.faults side) (D.disk.faults result.1 + D.disk.faults result.2) h (job_of words.now) result.0 }
     // A receiver's file that is empty or holds its frames is never told to be another's or damaged either.
     ensures receives { D.disk.tells log → ReceiverServes (D.disk.seen log) (D.disk.faults log) (D.disk.faults result.1) (job_of words.now) result.0 }
     // So it is with the files of a standby that are empty or hold its store's list.
@@ -97,6 +101,12 @@ fn do_job<S: Source, O: Sink, D: Disk, C: Clock, L: Link>(
             ask_archive(alloc, output, log, side, page, query.as_str())
         }
         Job::Contents(publication) => list_contents(alloc, output, log, side, publication),
+        Job::Audit(after) => audit_list(alloc, output, log, side, after),
+        Job::Ask(entries) => ask_past(alloc, input, output, log, side, entries),
+        Job::Why {
+            publication,
+            subscriber,
+        } => explain(alloc, output, log, side, publication, subscriber),
         Job::Drain => drain(alloc, output, log, side, clock, links),
         Job::Receive(name) => receive(alloc, input, output, log, side, name),
         Job::Ship(name) => ship_list(alloc, output, log, side, links, name),

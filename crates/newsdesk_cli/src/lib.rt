@@ -2,6 +2,8 @@
 #![tactic(auto)]
 
 mod archive;
+mod ask;
+mod audit;
 mod check;
 mod command;
 mod contents;
@@ -10,5 +12,6 @@ mod pack;
 mod package;
 mod standby;
 mod telling;
+mod why;
 
 pub use command::run;

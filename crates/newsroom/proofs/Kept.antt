@@ -10,6 +10,8 @@ use Rattle.news_types.specs.declared.entry.Reply.{Reply}
 use Rattle.news_types.specs.Outcome.{last_reply, reply_to, entry_of}
 use Rattle.rule_tables.specs.Keeps.{KeepsRules}
 use Rattle.story_tables.specs.Keeps.{KeepsStories}
+use Rattle.desk_records.specs.Dues.{KeepsDues}
+use Rattle.desk_records.specs.Wires.{KeepsWires}
 use Rattle.newsroom.specs.declared.newsroom.Newsroom.{Newsroom}
 use Rattle.newsroom.specs.declared.callers.Last.{Last}
 use Rattle.newsroom.specs.Callers.{asked_of, reply_of, Remembers}
@@ -29,8 +31,8 @@ callers_kept old new asked replied alike holds = record {
 }
 
 -- the same with other tables
-pub stands_with : (n r : Newsroom) (h : History) → StandsFor n h → r.entries ≡ n.entries → r.moment ≡ n.moment → r.last_stop ≡ n.last_stop → Remembers r.callers (last h) (last_reply h) → KeepsRules r.rules h → KeepsStories r.stories h → StandsFor r h
-stands_with n r h stands entries at stop callers rules stories = record {
+pub stands_with : (n r : Newsroom) (h : History) → StandsFor n h → r.entries ≡ n.entries → r.moment ≡ n.moment → r.last_stop ≡ n.last_stop → Remembers r.callers (last h) (last_reply h) → KeepsRules r.rules h → KeepsStories r.stories h → KeepsDues r.dues h → KeepsWires r.wires h → StandsFor r h
+stands_with n r h stands entries at stop callers rules stories dues wires = record {
   legal = stands.legal;
   entries = entries ∙ stands.entries;
   at = at ∙ stands.at;
@@ -38,6 +40,8 @@ stands_with n r h stands entries at stop callers rules stories = record {
   callers = callers;
   rules = rules;
   stories = stories;
+  dues = dues;
+  wires = wires;
 }
 
 -- what is remembered of the caller

@@ -13,3 +13,4 @@ pub mod Placed
 pub mod Making
 pub mod Answering
 pub mod Framing
+pub mod Recorded

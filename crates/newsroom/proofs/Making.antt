@@ -33,7 +33,7 @@ module _ (r : Rules) (h : History) (m : ℕ) (name : Bytes) (come : Incoming) wh
   behind = entry_of m (Ingest name come) ∷ h
 
   kept : AreAlike (facts h) (facts behind) → KeepsRules r h → KeepsRules r behind
-  kept alike keeps = record { desks = kept_alike r.desks (facts h) (facts behind) alike keeps.desks; filters = keeps.filters; products = keeps.products; sources = keeps.sources }
+  kept alike keeps = record { desks = kept_alike r.desks (facts h) (facts behind) alike keeps.desks; filters = keeps.filters; products = keeps.products; sources = keeps.sources; rolls = keeps.rolls }
 
   none_by : (e : items.Effect) → effect h name come m ≡ e → IsForPlace None h e → KeepsRules r h → KeepsRules r behind
   none_by (items.Replaces i) does is keeps = kept (known_alike h (entry_of m (Ingest name come)) name come refl (rw does tt)) keeps

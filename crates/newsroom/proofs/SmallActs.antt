@@ -17,27 +17,30 @@ use Rattle.news_types.proofs.Delivered.{absent_acked}
 use Rattle.rule_tables.specs.declared.rules.Rules.{Rules}
 use Rattle.rule_tables.specs.Keeps.{KeepsRules}
 use Rattle.story_tables.specs.Keeps.{KeepsStories, facts_at}
+use Rattle.desk_records.specs.Dues.{KeepsDues}
+use Rattle.desk_records.specs.Wires.{KeepsWires}
 use Rattle.newsroom.specs.declared.newsroom.Newsroom.{Newsroom}
 use Rattle.newsroom.specs.Callers.{Remembers}
 use Rattle.newsroom.specs.Stands.{StandsFor}
 use Rattle.newsroom.specs.Acts.{IsSmall, follows_at, may_follow, raises_by}
+use Rattle.newsroom.proofs.Recorded.{dues_kept, wires_kept}
 
 rules_kept : (r : Rules) (h : History) (act : Act) (m : ℕ) → IsSmall act → KeepsRules r h → KeepsRules r (entry_of m act ∷ h)
-rules_kept r h Advance m small keeps = record { desks = keeps.desks; filters = keeps.filters; products = keeps.products; sources = keeps.sources }
-rules_kept r h (Attempt s k) m small keeps = record { desks = keeps.desks; filters = keeps.filters; products = keeps.products; sources = keeps.sources }
-rules_kept r h (Receipt s n) m small keeps = record { desks = keeps.desks; filters = keeps.filters; products = keeps.products; sources = keeps.sources }
-rules_kept r h Halt m small keeps = record { desks = keeps.desks; filters = keeps.filters; products = keeps.products; sources = keeps.sources }
+rules_kept r h Advance m small keeps = record { desks = keeps.desks; filters = keeps.filters; products = keeps.products; sources = keeps.sources; rolls = keeps.rolls }
+rules_kept r h (Attempt s k) m small keeps = record { desks = keeps.desks; filters = keeps.filters; products = keeps.products; sources = keeps.sources; rolls = keeps.rolls }
+rules_kept r h (Receipt s n) m small keeps = record { desks = keeps.desks; filters = keeps.filters; products = keeps.products; sources = keeps.sources; rolls = keeps.rolls }
+rules_kept r h Halt m small keeps = record { desks = keeps.desks; filters = keeps.filters; products = keeps.products; sources = keeps.sources; rolls = keeps.rolls }
 rules_kept r h _ m small keeps = absurd small
 
 stop_behind : (h : History) (act : Act) (m : ℕ) → last_stop (entry_of m act ∷ h) ≡ cond (is_stop act) (length h + 1) (last_stop h)
 stop_behind h act m = refl
 
-module _ (n r : Newsroom) (h : History) (m : ℕ) (stands : StandsFor n h) (entries : r.entries ≡ n.entries + 1) (at : r.moment ≡ m) (callers : Remembers r.callers (last h) (last_reply h)) (rules : KeepsRules r.rules h) where
+module _ (n r : Newsroom) (h : History) (m : ℕ) (stands : StandsFor n h) (entries : r.entries ≡ n.entries + 1) (at : r.moment ≡ m) (callers : Remembers r.callers (last h) (last_reply h)) (rules : KeepsRules r.rules h) (dues : KeepsDues r.dues h) (wires : KeepsWires r.wires h) where
   pub small_kept : (act : Act) → IsSmall act → IsLegal (entry_of m act ∷ h) → r.last_stop ≡ last_stop (entry_of m act ∷ h) → KeepsStories r.stories (entry_of m act ∷ h) → StandsFor r (entry_of m act ∷ h)
-  small_kept Advance small legal stop stories = record { legal = legal; entries = omega (arith, entries, stands.entries); at = at; stop = stop; callers = callers; rules = rules_kept r.rules h Advance m tt rules; stories = stories }
-  small_kept (Attempt s k) small legal stop stories = record { legal = legal; entries = omega (arith, entries, stands.entries); at = at; stop = stop; callers = callers; rules = rules_kept r.rules h (Attempt s k) m tt rules; stories = stories }
-  small_kept (Receipt s k) small legal stop stories = record { legal = legal; entries = omega (arith, entries, stands.entries); at = at; stop = stop; callers = callers; rules = rules_kept r.rules h (Receipt s k) m tt rules; stories = stories }
-  small_kept Halt small legal stop stories = record { legal = legal; entries = omega (arith, entries, stands.entries); at = at; stop = stop; callers = callers; rules = rules_kept r.rules h Halt m tt rules; stories = stories }
+  small_kept Advance small legal stop stories = record { legal = legal; entries = omega (arith, entries, stands.entries); at = at; stop = stop; callers = callers; rules = rules_kept r.rules h Advance m tt rules; stories = stories; dues = dues_kept r.dues h Advance m tt dues; wires = wires_kept r.wires h Advance m tt wires }
+  small_kept (Attempt s k) small legal stop stories = record { legal = legal; entries = omega (arith, entries, stands.entries); at = at; stop = stop; callers = callers; rules = rules_kept r.rules h (Attempt s k) m tt rules; stories = stories; dues = dues_kept r.dues h (Attempt s k) m tt dues; wires = wires_kept r.wires h (Attempt s k) m tt wires }
+  small_kept (Receipt s k) small legal stop stories = record { legal = legal; entries = omega (arith, entries, stands.entries); at = at; stop = stop; callers = callers; rules = rules_kept r.rules h (Receipt s k) m tt rules; stories = stories; dues = dues_kept r.dues h (Receipt s k) m tt dues; wires = wires_kept r.wires h (Receipt s k) m tt wires }
+  small_kept Halt small legal stop stories = record { legal = legal; entries = omega (arith, entries, stands.entries); at = at; stop = stop; callers = callers; rules = rules_kept r.rules h Halt m tt rules; stories = stories; dues = dues_kept r.dues h Halt m tt dues; wires = wires_kept r.wires h Halt m tt wires }
   small_kept _ small legal stop stories = absurd small
 
 -- ---- when they may follow

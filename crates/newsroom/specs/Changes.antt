@@ -17,7 +17,10 @@ use Rattle.rule_tables.specs.declared.ingest.PlaceChange.{PlaceChange}
 use Rattle.rule_tables.specs.declared.rules.Rules.{Rules}
 use Rattle.rule_tables.specs.Steps.{HasRoom as HasRuleRoom, IsFor as IsForRules}
 use Rattle.story_tables.specs.Parts.{HasRoom as HasPartRoom, IsFor as IsForParts}
+use Rattle.desk_records.specs.DueSteps.{HasDueRoom, IsForDues}
+use Rattle.desk_records.specs.Wires.{HasWireRoom, IsForWires}
 use Rattle.newsroom.specs.declared.newsroom.Newsroom.{Newsroom}
+use Rattle.newsroom.specs.declared.change.StoryChange.{StoryChange}
 use Rattle.newsroom.specs.declared.change.RequestChange.{RequestChange}
 use Rattle.newsroom.specs.declared.change.IngestChange.{IngestChange}
 use Rattle.newsroom.specs.declared.change.Change.{Change}
@@ -25,10 +28,22 @@ use Rattle.newsroom.specs.declared.change.Change.TheVariants as change
 use Rattle.newsroom.specs.declared.change.Prepared.{Prepared}
 use Rattle.newsroom.specs.declared.change.Prepared.TheVariants as prepared
 
+-- ---- items, publications and feeds, and what is due
+
+pub record HasStoryRoom (n : Newsroom) (c : StoryChange) : Type 0 where
+  pub parts : HasPartRoom n.stories c.parts
+  pub dues : HasDueRoom n.dues c.dues
+
+-- the change is that of the act at the moment, behind the list
+pub record IsForStory (c : StoryChange) (m : ℕ) (act : Act) (h : History) : Type 0 where
+  pub parts : IsForParts c.parts m act h
+  pub dues : IsForDues c.dues h (entry_of m act ∷ h)
+
 -- ---- requests
 
 pub record HasRequestRoom (n : Newsroom) (c : RequestChange) : Type 0 where
   pub parts : HasPartRoom n.stories c.parts
+  pub dues : HasDueRoom n.dues c.dues
   pub rules : HasRuleRoom n.rules c.rules
   pub caller : 0 < spare n.callers
 
@@ -36,6 +51,7 @@ pub record HasRequestRoom (n : Newsroom) (c : RequestChange) : Type 0 where
 pub record IsForRequest (c : RequestChange) (m : ℕ) (caller : Bytes) (number : ℕ) (command : Command) (h : History) : Type 0 where
   pub legal : IsLegal (entry_of m (Request caller number command) ∷ h)
   pub parts : IsForParts c.parts m (Request caller number command) h
+  pub dues : IsForDues c.dues h (entry_of m (Request caller number command) ∷ h)
   pub rules : IsForRules c.rules caller command h
   pub stops : c.stops ≡ is_stop_command command
   pub who : c.caller ≡ caller
@@ -49,6 +65,8 @@ HasPlaceRoom r (Some c) = HasDeskRoom r.desks c.desks
 
 pub record HasIngestRoom (n : Newsroom) (c : IngestChange) : Type 0 where
   pub parts : HasPartRoom n.stories c.parts
+  pub dues : HasDueRoom n.dues c.dues
+  pub wires : HasWireRoom n.wires c.wires
   pub place : HasPlaceRoom n.rules c.place
 
 -- it makes the item that the effect makes, at its place or at none
@@ -64,6 +82,8 @@ IsForPlace _ h _ = ⊥
 pub record IsForIngest (c : IngestChange) (m : ℕ) (name : Bytes) (come : Incoming) (h : History) : Type 0 where
   pub legal : IsLegal (entry_of m (Ingest name come) ∷ h)
   pub parts : IsForParts c.parts m (Ingest name come) h
+  pub dues : IsForDues c.dues h (entry_of m (Ingest name come) ∷ h)
+  pub wires : IsForWires c.wires h (entry_of m (Ingest name come) ∷ h)
   pub place : IsForPlace c.place h (effect h name come m)
 
 -- ---- any act

@@ -8,6 +8,8 @@ use Rattle.news_types.specs.Legal.{IsLegal}
 use Rattle.news_types.specs.Outcome.{last_reply}
 use Rattle.rule_tables.specs.Keeps.{KeepsRules}
 use Rattle.story_tables.specs.Keeps.{KeepsStories}
+use Rattle.desk_records.specs.Dues.{KeepsDues}
+use Rattle.desk_records.specs.Wires.{KeepsWires}
 use Rattle.newsroom.specs.Callers.{Remembers}
 use Rattle.newsroom.specs.declared.newsroom.Newsroom.{Newsroom}
 
@@ -24,6 +26,8 @@ pub record StandsFor (n : Newsroom) (h : History) : Type 0 where
   pub callers : Remembers n.callers (last h) (last_reply h)
   pub rules : KeepsRules n.rules h
   pub stories : KeepsStories n.stories h
+  pub dues : KeepsDues n.dues h
+  pub wires : KeepsWires n.wires h
 
 -- it stands for some list, in which there is place for one more entry
 abbrev pub Stands : Newsroom → Type 0

@@ -64,6 +64,8 @@ impl Newsroom {
         ensures at { self.new.moment ≡ self.old.moment }
         ensures callers { self.new.callers ≡ self.old.callers }
         ensures rules { self.new.rules ≡ self.old.rules }
+        ensures dues { self.new.dues ≡ self.old.dues }
+        ensures wires { self.new.wires ≡ self.old.wires }
         ensures stories { (h : History) → KeepsStories self.old.stories h → last_moment h ≤ moment → KeepsStories self.new.stories (entry_of moment acts.Halt ∷ h) }
     {
         self.last_stop = self.entries;

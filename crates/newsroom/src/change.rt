@@ -1,13 +1,22 @@
 //! What is prepared before it is kept.
 use crate::callers::Last;
+use desk_records::{DueChange, WireChange};
 use news_types::{Denial, Name, Reply};
 use rule_tables::{PlaceChange, RuleChange};
 use story_tables::Parts;
+
+/// What an entry does to items, publications and feeds, and to the record of what is due, with the memory for it taken.
+#[derive(Drop)]
+pub(crate) struct StoryChange {
+    pub(crate) parts: Parts,
+    pub(crate) dues: DueChange,
+}
 
 /// A request that is accepted, with the memory for it taken.
 #[derive(Drop)]
 pub struct RequestChange {
     pub(crate) parts: Parts,
+    pub(crate) dues: DueChange,
     pub(crate) rules: RuleChange,
     pub(crate) stops: bool,
     pub(crate) caller: Name,
@@ -18,6 +27,8 @@ pub struct RequestChange {
 #[derive(Drop)]
 pub struct IngestChange {
     pub(crate) parts: Parts,
+    pub(crate) dues: DueChange,
+    pub(crate) wires: WireChange,
     /// The item that it makes, if it makes one.
     pub(crate) place: Option<PlaceChange>,
 }

@@ -11,16 +11,16 @@ ghost use Rattle.news_types.specs.Denial.{ingest_denial};
 ghost use Rattle.news_types.specs.Outcome.{kept, ingest_at, reply_to, entry_of, no_entry};
 ghost use Rattle.rule_tables.specs.Keeps.{KeepsRules};
 ghost use Rattle.story_tables.specs.Ingests.{effect_of};
-ghost use Rattle.story_tables.specs.Parts.{HasRoom as HasPartRoom, IsFor as IsForParts};
 ghost use Rattle.newsroom.specs.Stands.{StandsFor, Stands, store_of};
 ghost use Rattle.newsroom.specs.Ingests.{published_at, IsThereIfMade};
-ghost use Rattle.newsroom.specs.Changes.{HasPlaceRoom, HasIngestRoom, HasMemory, IsForPlace, IsForIngest, IsFor, IfChange, Decides};
+ghost use Rattle.newsroom.specs.Changes.{HasStoryRoom, IsForStory, HasPlaceRoom, HasIngestRoom, HasMemory, IsForPlace, IsForIngest, IsFor, IfChange, Decides};
 
-use crate::change::{Change, IngestChange, Prepared};
+use crate::change::{Change, IngestChange, Prepared, StoryChange};
 use crate::newsroom::Newsroom;
+use crate::records::wire_of;
 use news_types::{Denial, Incoming, Kind, Memory, Moment, Name, Place, Reply, Thing};
 use rule_tables::{PlaceChange, Rules};
-use story_tables::{Effect, Parts};
+use story_tables::Effect;
 
 impl Newsroom {
     // Decides an ingest, and takes the memory for it.
@@ -99,31 +99,35 @@ impl Newsroom {
         ensures change { (h : History) → StandsFor self.old h → IsLegal (entry_of moment (Ingest provider.now come.now) ∷ h) → effect_of effect.now ≡ effect_at h provider.now come.now moment
             → IfOk result (λ change. IsForIngest change moment provider.now come.now h) }
     {
-        let parts = self.ingest_parts(provider, come, effect, moment)?;
+        let StoryChange { parts, dues } = self.ingest_parts(provider, come, effect, moment)?;
+        let wires = self.wires.prepare(parts.reply().item, wire_of(come))?;
         let place = prepare_place(&mut self.rules, effect)?;
-        Ok(IngestChange { parts, place })
+        Ok(IngestChange {
+            parts,
+            dues,
+            wires,
+            place,
+        })
     }
 
-    // Takes the memory for what it does to items, publications and feeds.
+    // Takes the memory for what it does to items, publications and feeds, and to what is due.
     fn ingest_parts(
         &mut self,
         provider: &Name,
         come: &Incoming,
         effect: &Effect,
         moment: Moment,
-    ) -> Result<Parts, Memory>
+    ) -> Result<StoryChange, Memory>
         requires stands { Stands self.old }
         ensures stays { (h : History) → StandsFor self.old h → StandsFor self.new h }
         ensures store { store_of self.new ≡ store_of self.old }
-        ensures room { IfOk result (λ parts. HasPartRoom self.new.stories parts) }
+        ensures room { IfOk result (λ change. HasStoryRoom self.new change) }
         ensures change { (h : History) → StandsFor self.old h → last_moment h ≤ moment → effect_of effect.now ≡ effect_at h provider.now come.now moment
-            → IfOk result (λ parts. IsForParts parts moment (Ingest provider.now come.now) h) }
+            → IfOk result (λ change. IsForStory change moment (Ingest provider.now come.now) h) }
     {
         match published_at(effect) {
             Some(place) => self.prepare_routed(provider, come, &place, moment),
-            None => self
-                .stories
-                .prepare_ingest(*provider, come, effect, moment, self.entries),
+            None => self.prepare_unpublished(provider, come, effect, moment),
         }
     }
 
@@ -134,13 +138,13 @@ impl Newsroom {
         come: &Incoming,
         place: &Place,
         moment: Moment,
-    ) -> Result<Parts, Memory>
+    ) -> Result<StoryChange, Memory>
         requires stands { Stands self.old }
         ensures stays { (h : History) → StandsFor self.old h → StandsFor self.new h }
         ensures store { store_of self.new ≡ store_of self.old }
-        ensures room { IfOk result (λ parts. HasPartRoom self.new.stories parts) }
+        ensures room { IfOk result (λ change. HasStoryRoom self.new change) }
         ensures change { (h : History) → StandsFor self.old h → last_moment h ≤ moment → effect_at h provider.now come.now moment ≡ NewAt place.now true
-            → IfOk result (λ parts. IsForParts parts moment (Ingest provider.now come.now) h) }
+            → IfOk result (λ change. IsForStory change moment (Ingest provider.now come.now) h) }
     {
         let due = self.rules.due_list(&come.story, &[], &[], Kind::First)?;
         let names = due.as_slice();
@@ -148,8 +152,11 @@ impl Newsroom {
         let releases = self
             .rules
             .releases(self.alloc, names, &[], Kind::First, release)?;
-        self.stories
-            .prepare_routed(*provider, come, place, releases, moment, self.entries)
+        let dues = self.dues.prepare_publication(&releases)?;
+        let parts = self
+            .stories
+            .prepare_routed(*provider, come, place, releases, moment, self.entries)?;
+        Ok(StoryChange { parts, dues })
     }
 
     // Keeps an ingest. It takes no memory.
@@ -160,8 +167,15 @@ impl Newsroom {
         ensures store { store_of self.new ≡ store_of self.old }
         ensures reply { (h : History) (m : ℕ) (name : Bytes) (come : Incoming) → StandsFor self.old h → IsForIngest change m name come h → result ≡ reply_to h m (Ingest name come) }
     {
-        let IngestChange { parts, place } = change;
+        let IngestChange {
+            parts,
+            dues,
+            wires,
+            place,
+        } = change;
         keep_place(&mut self.rules, place);
+        self.dues.commit(dues);
+        self.wires.commit(wires);
         self.entries += 1;
         self.moment = parts.moment();
         self.stories.commit(parts)

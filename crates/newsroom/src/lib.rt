@@ -11,6 +11,7 @@ mod incoming;
 mod ingest;
 mod newsroom;
 mod prepare;
+mod records;
 mod tables;
 
 pub use change::{Change, Prepared};

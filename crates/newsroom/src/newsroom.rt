@@ -10,6 +10,7 @@ ghost use Rattle.newsroom.specs.Changes.{HasMemory, IsFor, IfChange, Decides, Pr
 
 use crate::callers::{self, Last};
 use crate::change::{Change, Prepared};
+use desk_records::{Dues, Wires};
 use news_types::{Act, Command, Memory, Moment, Name, Reply};
 use rule_tables::Rules;
 use std::alloc::Global;
@@ -29,6 +30,8 @@ pub struct Newsroom {
     pub(crate) callers: HashMap<Name, Last>,
     pub(crate) rules: Rules,
     pub(crate) stories: Stories,
+    pub(crate) dues: Dues,
+    pub(crate) wires: Wires,
 }
 
 impl Newsroom {
@@ -46,6 +49,8 @@ impl Newsroom {
             callers: callers::none(alloc),
             rules: Rules::new(alloc)?,
             stories: Stories::new(alloc)?,
+            dues: Dues::new(alloc)?,
+            wires: Wires::new(alloc)?,
         })
     }
 

@@ -11,14 +11,14 @@ ghost use Rattle.news_types.specs.Outcome.{reply_to, entry_of};
 ghost use Rattle.newsroom.specs.Stands.{StandsFor, Stands, store_of};
 ghost use Rattle.news_types.specs.declared.command.Command.TheVariants as command;
 ghost use Rattle.story_tables.specs.Issued.{issues, issued_of};
-ghost use Rattle.story_tables.specs.Parts.{HasRoom as HasPartRoom, IsFor as IsForParts};
-ghost use Rattle.newsroom.specs.Changes.{HasRequestRoom, IsForRequest};
+ghost use Rattle.newsroom.specs.Changes.{HasStoryRoom, IsForStory, HasRequestRoom, IsForRequest};
 
 use crate::callers::{self, Last};
-use crate::change::RequestChange;
+use crate::change::{RequestChange, StoryChange};
 use crate::newsroom::Newsroom;
+use crate::records::prepare_issued;
 use news_types::{Command, Kind, Memory, Moment, Name, Names, Reply, Story};
-use story_tables::{Issue, Parts};
+use story_tables::Issue;
 
 impl Newsroom {
     // Takes the memory for a request that is accepted.
@@ -36,7 +36,7 @@ impl Newsroom {
         ensures room { IfOk result (λ change. HasRequestRoom self.new change) }
         ensures change { (h : History) → StandsFor self.old h → IsLegal (entry_of moment (Request caller.now number command.now) ∷ h) → IfOk result (λ change. IsForRequest change moment caller.now number command.now h) }
     {
-        let parts = self.prepare_parts(command, moment)?;
+        let StoryChange { parts, dues } = self.prepare_parts(command, moment)?;
         let rules = self.rules.prepare(caller, command)?;
         callers::reserve_one(&mut self.callers)?;
         let last = Last {
@@ -46,6 +46,7 @@ impl Newsroom {
         };
         Ok(RequestChange {
             parts,
+            dues,
             rules,
             stops: is_stop(command),
             caller: *caller,
@@ -53,24 +54,22 @@ impl Newsroom {
         })
     }
 
-    // Takes the memory for what a command does to items, publications and feeds.
-    fn prepare_parts(&mut self, command: &Command, moment: Moment) -> Result<Parts, Memory>
+    // Takes the memory for what a command does to items, publications and feeds, and to what is due.
+    fn prepare_parts(&mut self, command: &Command, moment: Moment) -> Result<StoryChange, Memory>
         requires stands { Stands self.old }
         ensures stays { (h : History) → StandsFor self.old h → StandsFor self.new h }
         ensures store { store_of self.new ≡ store_of self.old }
-        ensures room { IfOk result (λ parts. HasPartRoom self.new.stories parts) }
-        ensures change { (h : History) (caller : Bytes) (number : ℕ) → StandsFor self.old h → IsLegal (entry_of moment (Request caller number command.now) ∷ h) → IfOk result (λ parts. IsForParts parts moment (Request caller number command.now) h) }
+        ensures room { IfOk result (λ change. HasStoryRoom self.new change) }
+        ensures change { (h : History) (caller : Bytes) (number : ℕ) → StandsFor self.old h → IsLegal (entry_of moment (Request caller number command.now) ∷ h) → IfOk result (λ change. IsForStory change moment (Request caller number command.now) h) }
     {
         match command {
             Command::Flash { story, targets } => self.prepare_flash(story, targets, moment),
-            Command::Deschedule { item } => {
-                self.stories.prepare_deschedule(*item, moment, self.entries)
-            }
+            Command::Deschedule { item } => self.prepare_deschedule(*item, moment),
             Command::Publish { .. }
             | Command::Correct { .. }
             | Command::Kill { .. }
             | Command::Recall { .. } => self.prepare_publication(command, moment),
-            _ => self.stories.prepare_silent(command, moment, self.entries),
+            _ => self.prepare_silent(command, moment),
         }
     }
 
@@ -80,12 +79,12 @@ impl Newsroom {
         story: &Story,
         targets: &Names,
         moment: Moment,
-    ) -> Result<Parts, Memory>
+    ) -> Result<StoryChange, Memory>
         requires stands { Stands self.old }
         ensures stays { (h : History) → StandsFor self.old h → StandsFor self.new h }
         ensures store { store_of self.new ≡ store_of self.old }
-        ensures room { IfOk result (λ parts. HasPartRoom self.new.stories parts) }
-        ensures change { (h : History) (caller : Bytes) (number : ℕ) → StandsFor self.old h → last_moment h ≤ moment → IfOk result (λ parts. IsForParts parts moment (Request caller number (command.Flash story.now targets.now)) h) }
+        ensures room { IfOk result (λ change. HasStoryRoom self.new change) }
+        ensures change { (h : History) (caller : Bytes) (number : ℕ) → StandsFor self.old h → last_moment h ≤ moment → IfOk result (λ change. IsForStory change moment (Request caller number (command.Flash story.now targets.now)) h) }
     {
         let due = self
             .rules
@@ -94,21 +93,28 @@ impl Newsroom {
         let releases = self
             .rules
             .releases(self.alloc, names, &[], Kind::First, moment)?;
-        self.stories
-            .prepare_flash(story, targets, releases, moment, self.entries)
+        let dues = self.dues.prepare_publication(&releases)?;
+        let parts = self
+            .stories
+            .prepare_flash(story, targets, releases, moment, self.entries)?;
+        Ok(StoryChange { parts, dues })
     }
 
     // Takes the memory for a command that publishes an item. One that is not there publishes nothing.
-    fn prepare_publication(&mut self, command: &Command, moment: Moment) -> Result<Parts, Memory>
+    fn prepare_publication(
+        &mut self,
+        command: &Command,
+        moment: Moment,
+    ) -> Result<StoryChange, Memory>
         requires stands { Stands self.old }
         ensures stays { (h : History) → StandsFor self.old h → StandsFor self.new h }
         ensures store { store_of self.new ≡ store_of self.old }
-        ensures room { IfOk result (λ parts. HasPartRoom self.new.stories parts) }
+        ensures room { IfOk result (λ change. HasStoryRoom self.new change) }
         ensures change { (h : History) (caller : Bytes) (number : ℕ) → StandsFor self.old h → issues command.now ≡ true → IsLegal (entry_of moment (Request caller number command.now) ∷ h)
-            → IfOk result (λ parts. IsForParts parts moment (Request caller number command.now) h) }
+            → IfOk result (λ change. IsForStory change moment (Request caller number command.now) h) }
     {
         let Some(issue) = self.stories.issue(command, moment)? else {
-            return self.stories.prepare_silent(command, moment, self.entries);
+            return self.prepare_silent(command, moment);
         };
         self.prepare_issue(command, issue, moment)
     }
@@ -119,13 +125,13 @@ impl Newsroom {
         command: &Command,
         issue: Issue,
         moment: Moment,
-    ) -> Result<Parts, Memory>
+    ) -> Result<StoryChange, Memory>
         requires stands { Stands self.old }
         ensures stays { (h : History) → StandsFor self.old h → StandsFor self.new h }
         ensures store { store_of self.new ≡ store_of self.old }
-        ensures room { IfOk result (λ parts. HasPartRoom self.new.stories parts) }
+        ensures room { IfOk result (λ change. HasStoryRoom self.new change) }
         ensures change { (h : History) (caller : Bytes) (number : ℕ) → StandsFor self.old h → issues command.now ≡ true → IsLegal (entry_of moment (Request caller number command.now) ∷ h)
-            → Some issue ≡ issued_of (issued_by_command (made h) moment caller command.now) → IfOk result (λ parts. IsForParts parts moment (Request caller number command.now) h) }
+            → Some issue ≡ issued_of (issued_by_command (made h) moment caller command.now) → IfOk result (λ change. IsForStory change moment (Request caller number command.now) h) }
     {
         let reached = self.stories.reached(&issue)?;
         let due = self.rules.due_list(
@@ -139,8 +145,12 @@ impl Newsroom {
         let releases = self
             .rules
             .releases(self.alloc, names, latest, issue.kind, issue.release)?;
-        self.stories
-            .prepare_issue(command, issue, releases, moment, self.entries)
+        let numbers = self.stories.numbers(issue.item);
+        let dues = prepare_issued(&mut self.dues, &issue, &releases, numbers, moment)?;
+        let parts = self
+            .stories
+            .prepare_issue(command, issue, releases, moment, self.entries)?;
+        Ok(StoryChange { parts, dues })
     }
 
     // Keeps a request. It takes no memory.
@@ -155,12 +165,14 @@ impl Newsroom {
     {
         let RequestChange {
             parts,
+            dues,
             rules,
             stops,
             caller,
             last,
         } = change;
         self.rules.commit(rules);
+        self.dues.commit(dues);
         callers::remember(&mut self.callers, caller, last);
         self.entries += 1;
         self.last_stop = stop_behind(self.last_stop, stops, self.entries);

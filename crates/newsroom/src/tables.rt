@@ -2,9 +2,12 @@
 ghost use Rattle.news_types.specs.History.{History};
 ghost use Rattle.rule_tables.specs.Keeps.{KeepsRules};
 ghost use Rattle.story_tables.specs.Keeps.{KeepsStories, HasPlace};
+ghost use Rattle.desk_records.specs.Dues.{KeepsDues};
+ghost use Rattle.desk_records.specs.Wires.{KeepsWires};
 ghost use Rattle.newsroom.specs.Stands.{StandsFor, Stands};
 
 use crate::newsroom::Newsroom;
+use desk_records::{Dues, Wires};
 use rule_tables::Rules;
 use story_tables::Stories;
 
@@ -22,5 +25,19 @@ impl Newsroom {
         ensures place { Stands self.now → HasPlace result.now }
     {
         &self.stories
+    }
+
+    /// To whom each publication was made due, with its release, and whether that stands, to be read: nothing is copied.
+    pub fn dues(&self) -> &Dues
+        ensures { (h : History) → StandsFor self.now h → KeepsDues result.now h }
+    {
+        &self.dues
+    }
+
+    /// What a provider last sent for each item, to be read: nothing is copied.
+    pub fn wires(&self) -> &Wires
+        ensures { (h : History) → StandsFor self.now h → KeepsWires result.now h }
+    {
+        &self.wires
     }
 }

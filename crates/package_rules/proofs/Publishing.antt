@@ -1,5 +1,6 @@
 -- A package is published, or is not.
 use Rattle.std.proofs.Common.{◌≡◌, inl, inr, ℕ, ◌+◌, ◌<◌, ◌==◌, Bool, true, false, cond, List, [], ◌∷◌, length, Option, Some, None, Ok, Err, refl, sym, ap, subst, ◌∙◌, arith}
+use Rattle.std.proofs.lemmas.Bool.Decides.{nat_tests}
 use Rattle.std.specs.Prelude.{Result}
 use mathlib.Core.Bool.{true≢false}
 use Rattle.news_types.specs.declared.entry.Entry.{Entry}
@@ -58,6 +59,12 @@ some_there (x ∷ xs) some = omega arith
 
 pub not_empty : {A : Type 0} (xs : List A) (b : Bool) → b ≡ (length xs == 0) → b ≡ false → xs ≡ [] → ⊥
 not_empty xs b is fails none = true≢false (sym (is ∙ ap (λ l. length l == 0) none) ∙ fails)
+
+pub is_nothing : {A : Type 0} (xs : List A) (b : Bool) → b ≡ (length xs == 0) → b ≡ true → xs ≡ []
+is_nothing [] b is holds = refl
+is_nothing (x ∷ xs) b is holds =
+    let some : (length (x ∷ xs) == 0) ≡ false = grind (arith, nat_tests) in
+    absurd (true≢false (sym holds ∙ (is ∙ some)))
 
 -- ---- the flash
 

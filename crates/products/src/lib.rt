@@ -9,4 +9,4 @@ mod table;
 mod verdict;
 
 pub use change::ProductChange;
-pub use table::Products;
+pub use table::{KeptProduct, KeptSubscriber, Products};

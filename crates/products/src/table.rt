@@ -1,11 +1,12 @@
 //! The table of products and subscribers.
 ghost use Rattle.std.specs.Prelude.{◌≡◌, [], IfOk, Option, is_some, option_map, codes};
 ghost use Rattle.std.specs.HashMap.{get};
+ghost use Rattle.std.specs.Option.{option_copied};
 ghost use Rattle.news_types.specs.Names.{same};
 ghost use Rattle.news_types.specs.History.{History};
 ghost use Rattle.news_types.specs.Frames.{format};
-ghost use Rattle.news_types.specs.Products.{lag};
-ghost use Rattle.products.specs.Keeps.{KeepsFacts, terms_of};
+ghost use Rattle.news_types.specs.Products.{lag, product, subscriber};
+ghost use Rattle.products.specs.Keeps.{KeepsFacts, product_of, subscriber_of, terms_of};
 
 use news_types::{Format, How, Memory, Name, Names};
 use std::alloc::Global;
@@ -13,19 +14,72 @@ use std::collections::HashMap;
 
 /// A product as the table keeps it.
 #[derive(Clone, Copy)]
-pub(crate) struct KeptProduct {
+pub struct KeptProduct {
     pub(crate) how: How,
     pub(crate) filter: Option<Name>,
 }
 
+impl KeptProduct {
+    /// Whether it permits what its filter matches, or blocks it.
+    pub fn how(&self) -> How
+        ensures { result ≡ (product_of self.now).how }
+    {
+        self.how
+    }
+
+    /// Its filter, if it has one.
+    pub fn filter(&self) -> Option<Name>
+        ensures { result ≡ (product_of self.now).filter }
+    {
+        self.filter
+    }
+}
+
 /// A subscriber as the table keeps it.
 #[derive(Drop)]
-pub(crate) struct KeptSubscriber {
+pub struct KeptSubscriber {
     pub(crate) format: Format,
     pub(crate) active: bool,
     pub(crate) products: Names,
     pub(crate) off: Names,
     pub(crate) lag: u32,
+}
+
+impl KeptSubscriber {
+    /// The format in which its entries are pushed.
+    pub fn format(&self) -> Format
+        ensures { result ≡ (subscriber_of self.now).format }
+    {
+        self.format
+    }
+
+    /// Whether new stories are permitted to it at all.
+    pub fn is_active(&self) -> bool
+        ensures { result ≡ (subscriber_of self.now).active }
+    {
+        self.active
+    }
+
+    /// The names of its products.
+    pub fn products(&self) -> &[Name]
+        ensures { result.now ≡ (subscriber_of self.now).products }
+    {
+        self.products.as_slice()
+    }
+
+    /// The names of the global blocks that it has switched off.
+    pub fn off(&self) -> &[Name]
+        ensures { result.now ≡ (subscriber_of self.now).off }
+    {
+        self.off.as_slice()
+    }
+
+    /// By how many seconds it gets later what is published.
+    pub fn lag(&self) -> u32
+        ensures { result ≡ (subscriber_of self.now).lag }
+    {
+        self.lag
+    }
 }
 
 /// The format of a subscriber, which never changes, and its lag.
@@ -74,6 +128,21 @@ impl Products {
             subscribers: HashMap::new(alloc),
             names: Vec::new(alloc),
         })
+    }
+
+    /// The product of that name, if it is there. It takes no memory.
+    pub fn product(&self, name: &Name) -> Option<KeptProduct>
+        ensures { (h : History) → KeepsFacts self.now h → option_map product_of result ≡ product h name.now }
+    {
+        self.products.get(name).copied()
+    }
+
+    /// What is kept of the subscriber, if it is there. It takes no memory.
+    pub fn terms(&self, name: &Name) -> Option<&KeptSubscriber>
+        ensures { (h : History) → KeepsFacts self.now h
+            → option_map subscriber_of (option_copied result) ≡ subscriber h name.now }
+    {
+        self.subscribers.get(name)
     }
 
     /// The format of the subscriber, if it is there. It takes no memory.

@@ -29,10 +29,11 @@ use Rattle.newsdesk_cli.specs.Imports.{HasTakenTable}
 use Rattle.newsdesk_cli.specs.Packages.{HasTakenPackage}
 use Rattle.newsdesk_cli.specs.Opened.{IsLook, HasGoneOn}
 use Rattle.newsdesk_cli.specs.FilesLeft.{NoneInDoubt, FilesLeft}
+use Rattle.newsdesk_cli.proofs.Asking.{asked_looks}
 use Rattle.program_events.specs.Events.{line_input}
 use Rattle.program_events.specs.Stories.{wire_input, item_input}
 use Rattle.program_events.specs.Leads.{IsBegunOf, LeadsOn}
-use Rattle.program_events.specs.Chains.{Did, Init, Batch, Ingest, Import, Package, Feed, Queue, Drain, Check, Archive, Contents, Ship, Pack, Run, LeftByRun, MayCrash, IsLeftBy, AreLeft, FollowOneAnother, world, AreOfGoing, Answers, Takes, Publishes, Reports, Pushes, AreOfRun, AreOfRuns, ComesTo, ChainsAreEvents}
+use Rattle.program_events.specs.Chains.{Did, Init, Batch, Ingest, Import, Package, Feed, Queue, Drain, Check, Archive, Contents, Audit, Ask, Why, Ship, Pack, Run, LeftByRun, MayCrash, IsLeftBy, AreLeft, FollowOneAnother, world, AreOfGoing, Answers, Takes, Publishes, Reports, Pushes, AreOfRun, AreOfRuns, ComesTo, ChainsAreEvents}
 use Rattle.program_events.proofs.Turns.{run_on}
 use Rattle.program_events.proofs.Draining.{drain_happened}
 use Rattle.program_events.proofs.Imports.{import_happened, import_leads}
@@ -329,6 +330,9 @@ module _ {D S O C L : Type 0} (disk : DiskMeaning D) (clock : ClockMeaning C) (s
     left_now (Check did) is files may = looked_now (λ v events. subst (λ (d : TheDid). AreOfRun disk clock source sink link v events r d events) (sym is) refl) did files may
     left_now (Archive page query did) is files may = looked_now (λ v events. subst (λ (d : TheDid). AreOfRun disk clock source sink link v events r d events) (sym is) refl) did files may
     left_now (Contents publication did) is files may = looked_now (λ v events. subst (λ (d : TheDid). AreOfRun disk clock source sink link v events r d events) (sym is) refl) did files may
+    left_now (Audit after did) is files may = looked_now (λ v events. subst (λ (d : TheDid). AreOfRun disk clock source sink link v events r d events) (sym is) refl) did files may
+    left_now (Ask entries did) is files may = looked_now (λ v events. subst (λ (d : TheDid). AreOfRun disk clock source sink link v events r d events) (sym is) refl) (asked_looks disk source sink entries r.log r.log' r.side r.side' r.input r.input' r.output r.output' r.status did) files may
+    left_now (Why publication subscriber did) is files may = looked_now (λ v events. subst (λ (d : TheDid). AreOfRun disk clock source sink link v events r d events) (sym is) refl) did files may
     left_now (Ship name did) is files may =
         as_before (λ v events. subst (λ (d : TheDid). AreOfRun disk clock source sink link v events r d events) (sym is) refl) files
         (ship_keeps disk store long r.log r.side list r.tells r.tells_side from.opens sink link name r.log' r.side' r.output r.output' r.status r.links r.links' did files (counts_since disk r.log r.log' (ship_time disk store long r.log r.side list r.tells r.tells_side from.opens sink link name r.log' r.side' r.output r.output' r.status r.links r.links' did) r.side' files may))
@@ -387,6 +391,9 @@ module _ {D S O C L : Type 0} (disk : DiskMeaning D) (clock : ClockMeaning C) (s
     left_then (Check did) is crash files may = looked_then (λ v events. subst (λ (d : TheDid). AreOfRun disk clock source sink link v events r d events) (sym is) refl) did files may
     left_then (Archive page query did) is crash files may = looked_then (λ v events. subst (λ (d : TheDid). AreOfRun disk clock source sink link v events r d events) (sym is) refl) did files may
     left_then (Contents publication did) is crash files may = looked_then (λ v events. subst (λ (d : TheDid). AreOfRun disk clock source sink link v events r d events) (sym is) refl) did files may
+    left_then (Audit after did) is crash files may = looked_then (λ v events. subst (λ (d : TheDid). AreOfRun disk clock source sink link v events r d events) (sym is) refl) did files may
+    left_then (Ask entries did) is crash files may = looked_then (λ v events. subst (λ (d : TheDid). AreOfRun disk clock source sink link v events r d events) (sym is) refl) (asked_looks disk source sink entries r.log r.log' r.side r.side' r.input r.input' r.output r.output' r.status did) files may
+    left_then (Why publication subscriber did) is crash files may = looked_then (λ v events. subst (λ (d : TheDid). AreOfRun disk clock source sink link v events r d events) (sym is) refl) did files may
     left_then (Ship name did) is crash files may =
         as_before (λ v events. subst (λ (d : TheDid). AreOfRun disk clock source sink link v events r d events) (sym is) refl) files
         (ship_keeps disk store long r.log r.side list r.tells r.tells_side from.opens sink link name r.log' r.side' r.output r.output' r.status r.links r.links' did files may)

@@ -30,6 +30,7 @@ use Rattle.world_laws.specs.Headline.{Headline}
 use Rattle.world_laws.specs.World.{World, Event, Reopens, happens, after}
 use Rattle.newsdesk_cli.specs.Archive.{IsArchive}
 use Rattle.newsdesk_cli.specs.Imports.{HasTakenTable, IsImportOf}
+use Rattle.newsdesk_cli.specs.Lists.{IsAudit, IsAsk, IsWhy}
 use Rattle.newsdesk_cli.specs.Packages.{IsContents, HasTakenPackage, IsPackageOf}
 use Rattle.newsdesk_cli.specs.Standby.{ShipsOver}
 use Rattle.newsdesk_cli.specs.Command.{HasAnswered, HasReported, IsBatch, IsIngest, IsReportOf, HasDrained, IsDrain, IsCheck, IsPack, IsInit, IsMade}
@@ -70,6 +71,9 @@ module _ {D S O C L : Type 0} (disk : DiskMeaning D) (clock : ClockMeaning C) (s
     Check : IsCheck disk sink log log' side side' o o' status → Did log log' side side' i i' o o' c c' l l' status
     Archive : (page : ℕ) (query : Bytes) → IsArchive disk sink page query log log' side side' o o' status → Did log log' side side' i i' o o' c c' l l' status
     Contents : (publication : ℕ) → IsContents disk sink publication log log' side side' o o' status → Did log log' side side' i i' o o' c c' l l' status
+    Audit : (after : ℕ) → IsAudit disk sink after log log' side side' o o' status → Did log log' side side' i i' o o' c c' l l' status
+    Ask : (entries : ℕ) → IsAsk disk source sink entries log log' side side' i i' o o' status → Did log log' side side' i i' o o' c c' l l' status
+    Why : (publication : ℕ) (subscriber : Bytes) → IsWhy disk sink publication subscriber log log' side side' o o' status → Did log log' side side' i i' o o' c c' l l' status
     Ship : (name : Bytes) → ShipsOver disk sink name log log' side side' o o' status link l l' → Did log log' side side' i i' o o' c c' l l' status
     Pack : IsPack disk sink log log' side side' o o' status → Did log log' side side' i i' o o' c c' l l' status
 
@@ -116,6 +120,9 @@ module _ {D S O C L : Type 0} (disk : DiskMeaning D) (clock : ClockMeaning C) (s
   LeftByRun r (Check did) files = LeftSince disk r.log' r.side' (disk.moment r.log) files
   LeftByRun r (Archive page query did) files = LeftSince disk r.log' r.side' (disk.moment r.log) files
   LeftByRun r (Contents publication did) files = LeftSince disk r.log' r.side' (disk.moment r.log) files
+  LeftByRun r (Audit after did) files = LeftSince disk r.log' r.side' (disk.moment r.log) files
+  LeftByRun r (Ask entries did) files = LeftSince disk r.log' r.side' (disk.moment r.log) files
+  LeftByRun r (Why publication subscriber did) files = LeftSince disk r.log' r.side' (disk.moment r.log) files
   LeftByRun r (Ship name did) files = LeftSince disk r.log' r.side' (disk.moment r.log) files
   LeftByRun r (Pack did) files = LeftByPacking r did files
 
@@ -204,6 +211,9 @@ module _ {D S O C L : Type 0} (disk : DiskMeaning D) (clock : ClockMeaning C) (s
   AreOfRun write before r (Check did) events = events ≡ before
   AreOfRun write before r (Archive page query did) events = events ≡ before
   AreOfRun write before r (Contents publication did) events = events ≡ before
+  AreOfRun write before r (Audit after did) events = events ≡ before
+  AreOfRun write before r (Ask entries did) events = events ≡ before
+  AreOfRun write before r (Why publication subscriber did) events = events ≡ before
   AreOfRun write before r (Ship name did) events = events ≡ before
   AreOfRun write before r (Pack did) events = events ≡ before
 

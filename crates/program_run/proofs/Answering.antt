@@ -240,7 +240,7 @@ module _ {D S O C L X F A : Type 0} (M : Meaning Entry X) (input : Input X) (mea
 
   abbrev Comes_to : (r : Result (Unit {0}) Ending) → Did r → Type 0
   Comes_to r did = Comes write w (list_behind M life m.sink input.decided input.all old new before.output mid h read more r did) (life.doubts new)
-      (Answered input m before after_it write w mid (MembersOf input m before after_it write w read more r) r)
+      (Answered input m before after_it write w mid (MembersOf input read more r) r)
 
   pub end_answered : (r : Result (Unit {0}) Ending) → (did : Did r) → Comes_to r did
   end_answered (Ok u) did = all_answered M input means m before after_it write life old new reads mid w h is was (input.all read) (Ok u) (λ v. (refl, refl, refl, refl)) did.2
@@ -255,7 +255,7 @@ module _ {D S O C L X F A : Type 0} (M : Meaning Entry X) (input : Input X) (mea
 -- ---- a run
 
 -- a failure is told only where the count rose
-causes_of : (i i' k k' o o' : ℕ) (r : Result (Unit {0}) Ending) → Ends i i' k k' o o' r → Causes i i' k k' o o' r
+pub causes_of : (i i' k k' o o' : ℕ) (r : Result (Unit {0}) Ending) → Ends i i' k k' o o' r → Causes i i' k k' o o' r
 causes_of i i' k k' o o' (Ok u) ends = (ends.0, ends.1.0, ends.1.1)
 causes_of i i' k k' o o' (Err end.Read) ends = ends
 causes_of i i' k k' o o' (Err end.Write) ends = (ends.0, ends.1.0, ends.1.1)
@@ -264,7 +264,7 @@ causes_of i i' k k' o o' (Err end.Full) ends = (ends.0, ends.1.0, ends.1.1)
 causes_of i i' k k' o o' (Err end.Memory) ends = (ends.0, ends.1.0, ends.1.1)
 causes_of i i' k k' o o' (Err end.TooLong) ends = ends
 
-status_same : (r : Result (Unit {0}) Ending) → lower.status_of r ≡ status_of r
+pub status_same : (r : Result (Unit {0}) Ending) → lower.status_of r ≡ status_of r
 status_same (Ok u) = refl
 status_same (Err end.Read) = refl
 status_same (Err end.Write) = refl

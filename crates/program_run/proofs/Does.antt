@@ -6,16 +6,20 @@ use Rattle.news_types.specs.History.{History}
 use Rattle.news_types.specs.Names.{Bytes}
 use Rattle.news_io.specs.Outside.{Meanings, Outside}
 use Rattle.command_words.specs.declared.words.Job.{Job}
-use Rattle.command_words.specs.declared.words.Job.TheVariants.{Init, Batch, Ingest, Import, Package, Feed, Queue, Archive, Contents, Drain, Receive, Ship, StandIn, Drill, Check, Pack}
+use Rattle.command_words.specs.declared.words.Job.TheVariants.{Init, Batch, Ingest, Import, Package, Feed, Queue, Archive, Contents, Audit, Ask, Why, Drain, Receive, Ship, StandIn, Drill, Check, Pack}
 use Rattle.newsdesk_cli.specs.Archive as archive
 use Rattle.newsdesk_cli.specs.Command as old
 use Rattle.newsdesk_cli.specs.Telling as telling
+use Rattle.list_runs.specs.Why.{why_line}
 use Rattle.package_rules.specs.Report.{contents_report}
 use Rattle.room_reports.specs.Texts.{feed_report_at, queue_report_at}
+use Rattle.room_reports.specs.Written.{IsWrittenOut}
 use Rattle.store_files.specs.declared.trouble.Trouble.TheVariants as trouble
+use Rattle.told_entries.specs.Entries.{audit}
 use Rattle.program_run.specs.Does.{Finds, Does, UsesLinks}
 use Rattle.program_run.specs.Inputs.{newsroom_formats}
 use Rattle.program_run.specs.Telling.{IsAnswered, Unread}
+use Rattle.program_run.proofs.Asking.{is_asked}
 use Rattle.program_run.proofs.Drilled.{is_drilled}
 use Rattle.program_run.proofs.Importing.{import_is}
 use Rattle.program_run.proofs.InputArms.{batch_answers, wire_answers, item_answers}
@@ -70,6 +74,13 @@ module _ {D S O C L : Type 0} (m : Meanings D S O C L) (before after : Outside D
   does (Some (Contents publication)) did links =
       looked m before after number (unread did.0 (links (λ uses. uses))) (λ store list. telling.IsAnswered m.sink (contents_report list store publication) before.output after.output number)
       (λ store list. IsAnswered m.sink (contents_report list store publication) before.output after.output number) (λ store list told. line_told (contents_report list store publication) told) did.1
+  does (Some (Audit first)) did links =
+      looked m before after number (unread did.0 (links (λ uses. uses))) (λ store list. IsWrittenOut m.sink (audit first list) before.output after.output number) (λ store list. IsWrittenOut m.sink (audit first list) before.output after.output number)
+      (λ store list told. told) did.1
+  does (Some (Ask entries)) did links = is_asked m before after number entries did.0 (links (λ uses. uses)) did.1
+  does (Some (Why publication subscriber)) did links =
+      looked m before after number (unread did.0 (links (λ uses. uses))) (λ store list. IsWrittenOut m.sink (why_line list publication subscriber) before.output after.output number)
+      (λ store list. IsWrittenOut m.sink (why_line list publication subscriber) before.output after.output number) (λ store list told. told) did.1
   does (Some Drain) did links = drain_does m before after number did.0 did.1
   does (Some (Receive name)) did links = is_received m before after number name did.1 did.0 (links (λ uses. uses)) did.2
   does (Some (Ship name)) did links = is_shipped m before after number name did.0.input_same did.0.clock_same did.1

@@ -7,6 +7,7 @@ pub mod Turns
 pub mod Begun
 pub mod Leading
 pub mod Answering
+pub mod Asking
 pub mod Sizes
 pub mod Lines
 pub mod Stories

@@ -4,7 +4,7 @@ use Rattle.news_types.specs.Names.{Bytes}
 use Rattle.news_types.specs.History.{History}
 use Rattle.news_io.specs.Outside.{Meanings, Outside, FilesTell, read}
 use Rattle.command_words.specs.declared.words.Job.{Job}
-use Rattle.command_words.specs.declared.words.Job.TheVariants.{Init, Batch, Ingest, Import, Package, Feed, Queue, Archive, Contents, Drain, Receive, Ship, StandIn, Drill, Check, Pack}
+use Rattle.command_words.specs.declared.words.Job.TheVariants.{Init, Batch, Ingest, Import, Package, Feed, Queue, Archive, Contents, Audit, Ask, Why, Drain, Receive, Ship, StandIn, Drill, Check, Pack}
 use Rattle.newsdesk_cli.specs.Command as old
 use Rattle.store_files.specs.Store as store
 use Rattle.program_run.specs.Does.{IsServed, Serves, ReceiverServes, StandbyServes, UsesLinks}
@@ -27,25 +27,28 @@ uses_links (Some (Feed subscriber first)) other = λ uses. uses
 uses_links (Some Queue) other = λ uses. uses
 uses_links (Some (Archive page asked)) other = λ uses. uses
 uses_links (Some (Contents publication)) other = λ uses. uses
+uses_links (Some (Audit first)) other = λ uses. uses
+uses_links (Some (Ask entries)) other = λ uses. uses
+uses_links (Some (Why publication subscriber)) other = λ uses. uses
 uses_links (Some Drain) other = other
 uses_links (Some Check) other = λ uses. uses
 uses_links (Some Pack) other = λ uses. uses
 uses_links (Some (StandIn owner)) other = λ uses. uses
 
 module _ {D S O C L : Type 0} (m : Meanings D S O C L) (before after : Outside D S O C L) where
-  abbrev Was : Option Job → ℕ → Type 0
-  Was job number = old.Serves (m.disk.faults before.log + m.disk.faults before.side) (m.disk.faults after.log + m.disk.faults after.side) job number
+  abbrev Was : History → Option Job → ℕ → Type 0
+  Was list job number = old.Serves (m.disk.faults before.log + m.disk.faults before.side) (m.disk.faults after.log + m.disk.faults after.side) list job number
 
   abbrev WasFor : Option Job → ℕ → Type 0
-  WasFor job number = m.disk.tells before.log → m.disk.tells before.side → (id : Bytes) (list : History) → length id ≡ 16 → store.Opens (m.disk.seen before.log) (m.disk.seen before.side) id list → Was job number
+  WasFor job number = m.disk.tells before.log → m.disk.tells before.side → (id : Bytes) (list : History) → length id ≡ 16 → store.Opens (m.disk.seen before.log) (m.disk.seen before.side) id list → Was list job number
 
   served : (was now number : ℕ) → old.IsServed was now number → IsServed was now number
   served was now number s = record { own = s.own; whole = s.whole; failed = s.failed }
 
   -- of a command that is to serve such files
-  serves_it : (job : Job) (number : ℕ) → WasFor (Some job) number → ((was : Was (Some job) number) → old.IsServed (m.disk.faults before.log + m.disk.faults before.side) (m.disk.faults after.log + m.disk.faults after.side) number)
+  serves_it : (job : Job) (number : ℕ) → WasFor (Some job) number → ((list : History) → Was list (Some job) number → old.IsServed (m.disk.faults before.log + m.disk.faults before.side) (m.disk.faults after.log + m.disk.faults after.side) number)
       → FilesTell m before → (id : Bytes) (list : History) → length id ≡ 16 → OpenTo id (read m before) list → IsServed (m.disk.faults before.log + m.disk.faults before.side) (m.disk.faults after.log + m.disk.faults after.side) number
-  serves_it job number for take tell id list long opens = served _ _ number (take (for tell.log tell.side id list long (old_opens id long (read m before) list opens)))
+  serves_it job number for take tell id list long opens = served _ _ number (take list (for tell.log tell.side id list long (old_opens id long (read m before) list opens)))
 
   pub serves : (job : Option Job) (number : ℕ) → WasFor job number → Serves m before after job number
   serves None number for = tt
@@ -53,18 +56,23 @@ module _ {D S O C L : Type 0} (m : Meanings D S O C L) (before after : Outside D
   serves (Some (Receive name)) number for = tt
   serves (Some (StandIn owner)) number for = tt
   serves (Some (Drill stories seed)) number for = tt
-  serves (Some Batch) number for = serves_it Batch number for (λ was. was)
-  serves (Some (Ingest format provider)) number for = serves_it (Ingest format provider) number for (λ was. was)
-  serves (Some (Import caller)) number for = serves_it (Import caller) number for (λ was. was)
-  serves (Some (Package caller request)) number for = serves_it (Package caller request) number for (λ was. was)
-  serves (Some (Feed subscriber first)) number for = serves_it (Feed subscriber first) number for (λ was. was)
-  serves (Some Queue) number for = serves_it Queue number for (λ was. was)
-  serves (Some (Archive page asked)) number for = serves_it (Archive page asked) number for (λ was. was)
-  serves (Some (Contents publication)) number for = serves_it (Contents publication) number for (λ was. was)
-  serves (Some Drain) number for = serves_it Drain number for (λ was. was)
-  serves (Some (Ship name)) number for = serves_it (Ship name) number for (λ was. was)
-  serves (Some Check) number for = serves_it Check number for (λ was. was)
-  serves (Some Pack) number for = serves_it Pack number for (λ was. was)
+  serves (Some Batch) number for = serves_it Batch number for (λ list was. was)
+  serves (Some (Ingest format provider)) number for = serves_it (Ingest format provider) number for (λ list was. was)
+  serves (Some (Import caller)) number for = serves_it (Import caller) number for (λ list was. was)
+  serves (Some (Package caller request)) number for = serves_it (Package caller request) number for (λ list was. was)
+  serves (Some (Feed subscriber first)) number for = serves_it (Feed subscriber first) number for (λ list was. was)
+  serves (Some Queue) number for = serves_it Queue number for (λ list was. was)
+  serves (Some (Archive page asked)) number for = serves_it (Archive page asked) number for (λ list was. was)
+  serves (Some (Contents publication)) number for = serves_it (Contents publication) number for (λ list was. was)
+  serves (Some (Audit first)) number for = serves_it (Audit first) number for (λ list was. was)
+  serves (Some (Ask entries)) number for = λ tell id list long opens.
+      let s = for tell.log tell.side id list long (old_opens id long (read m before) list opens) in
+      record { own = s.own; whole = s.whole; failed = s.failed }
+  serves (Some (Why publication subscriber)) number for = serves_it (Why publication subscriber) number for (λ list was. was)
+  serves (Some Drain) number for = serves_it Drain number for (λ list was. was)
+  serves (Some (Ship name)) number for = serves_it (Ship name) number for (λ list was. was)
+  serves (Some Check) number for = serves_it Check number for (λ list was. was)
+  serves (Some Pack) number for = serves_it Pack number for (λ list was. was)
 
   abbrev ReceiverWas : Option Job → ℕ → Type 0
   ReceiverWas job number = m.disk.tells before.log → old.ReceiverServes (m.disk.seen before.log) (m.disk.faults before.log) (m.disk.faults after.log) job number
@@ -84,6 +92,9 @@ module _ {D S O C L : Type 0} (m : Meanings D S O C L) (before after : Outside D
   receives (Some Queue) number was = tt
   receives (Some (Archive page asked)) number was = tt
   receives (Some (Contents publication)) number was = tt
+  receives (Some (Audit first)) number was = tt
+  receives (Some (Ask entries)) number was = tt
+  receives (Some (Why publication subscriber)) number was = tt
   receives (Some Drain) number was = tt
   receives (Some Check) number was = tt
   receives (Some Pack) number was = tt
@@ -109,6 +120,9 @@ module _ {D S O C L : Type 0} (m : Meanings D S O C L) (before after : Outside D
   stands_in (Some Queue) number was = tt
   stands_in (Some (Archive page asked)) number was = tt
   stands_in (Some (Contents publication)) number was = tt
+  stands_in (Some (Audit first)) number was = tt
+  stands_in (Some (Ask entries)) number was = tt
+  stands_in (Some (Why publication subscriber)) number was = tt
   stands_in (Some Drain) number was = tt
   stands_in (Some Check) number was = tt
   stands_in (Some Pack) number was = tt

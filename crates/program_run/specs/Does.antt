@@ -1,5 +1,5 @@
 -- What the words of a command do.
-use Rattle.std.specs.Prelude.{◌≡◌, ◌⊎◌, ℕ, List, length, Option, Some, None}
+use Rattle.std.specs.Prelude.{◌≡◌, ◌⊎◌, ◌<◌, ℕ, List, length, Option, Some, None}
 use Rattle.news_types.specs.declared.query.Query.TheVariants as query
 use Rattle.news_types.specs.declared.words.Format.TheVariants.{Ninjs, Text7901}
 use Rattle.news_types.specs.Frames.{Frame}
@@ -8,10 +8,11 @@ use Rattle.news_types.specs.Names.{Bytes}
 use Rattle.news_io.specs.Faults.{Rose}
 use Rattle.news_io.specs.Outside.{Meanings, Outside, FilesTell, read, store_faults}
 use Rattle.command_words.specs.declared.words.Job.{Job}
-use Rattle.command_words.specs.declared.words.Job.TheVariants.{Init, Batch, Ingest, Import, Package, Feed, Queue, Archive, Contents, Drain, Receive, Ship, StandIn, Drill, Check, Pack}
+use Rattle.command_words.specs.declared.words.Job.TheVariants.{Init, Batch, Ingest, Import, Package, Feed, Queue, Archive, Contents, Audit, Ask, Why, Drain, Receive, Ship, StandIn, Drill, Check, Pack}
 use Rattle.receiver_files.specs.Log.{Gives}
 use Rattle.room_reports.specs.Written.{IsStopped}
 use Rattle.run_status.specs.declared.status.Status.TheVariants as status
+use Rattle.program_run.specs.Asked.{Asked}
 use Rattle.program_run.specs.Drilled.{IsDrilled}
 use Rattle.program_run.specs.Formats.{Kind, Formats}
 use Rattle.program_run.specs.Imported.{Imported}
@@ -25,7 +26,7 @@ use Rattle.program_run.specs.Published.{Published}
 use Rattle.program_run.specs.Pushed.{Pushed}
 use Rattle.program_run.specs.Received.{IsReceived}
 use Rattle.program_run.specs.Refused.{NotOpened}
-use Rattle.program_run.specs.Reported.{Reported}
+use Rattle.program_run.specs.Reported.{Reported, Written}
 use Rattle.program_run.specs.Shipped.{IsShipped}
 use Rattle.program_run.specs.StoodIn.{Gives as HeldBy, IsStoodIn}
 use Rattle.program_run.specs.Telling.{IsTold, IsAnswered, Unread}
@@ -33,6 +34,12 @@ use Rattle.program_run.specs.Telling.{IsTold, IsAnswered, Unread}
 -- the files are not refused for their bytes, and a failure is told only where a count of the disks rose
 pub record IsServed (before now number : ℕ) : Type 0 where
   pub own : number ≡ 3 → ⊥
+  pub whole : number ≡ 7 → ⊥
+  pub failed : number ≡ 6 → Rose before now
+
+-- so it is with `ask`, but that it refuses a list that has not so many entries
+pub record IsAskServed (entries : ℕ) (list : History) (before now number : ℕ) : Type 0 where
+  pub own : number ≡ 3 → length list < entries
   pub whole : number ≡ 7 → ⊥
   pub failed : number ≡ 6 → Rose before now
 
@@ -53,6 +60,10 @@ module _ {D S O C L : Type 0} (f : Formats) (m : Meanings D S O C L) (before aft
   -- this line was told; or there was no memory for it
   abbrev pub Tells : Bytes → ℕ → Type 0
   Tells line number = IsAnswered m.sink line before.output after.output number
+
+  -- this text was written, as far as the output and the memory allowed it
+  abbrev pub Writes : Bytes → ℕ → Type 0
+  Writes text number = Written m before after number text
 
   -- the answer to the query on this list was told: what it finds of a page, or where it is no query; or there was no memory
   abbrev pub Finds : ℕ → Bytes → History → ℕ → Type 0
@@ -80,6 +91,11 @@ module _ {D S O C L : Type 0} (f : Formats) (m : Meanings D S O C L) (before aft
   Does (Some (Archive page asked)) number = Looked f.finders m before after number (λ store list. Finds page asked list number)
   Does (Some (Contents publication)) number =
       Looked f.finders m before after number (λ store list. Tells (f.contents_report store publication list) number)
+  Does (Some (Audit first)) number =
+      Looked f.finders m before after number (λ store list. Writes (f.audit first list) number)
+  Does (Some (Ask entries)) number = Asked f m before after number entries
+  Does (Some (Why publication subscriber)) number =
+      Looked f.finders m before after number (λ store list. Writes (f.why_line publication subscriber list) number)
   Does (Some Drain) number = Drains number
   Does (Some (Receive name)) number = IsReceived m before after number name
   Does (Some (Ship name)) number = IsShipped m before after number name f.finders
@@ -90,9 +106,9 @@ module _ {D S O C L : Type 0} (f : Formats) (m : Meanings D S O C L) (before aft
 
 module _ {D S O C L : Type 0} (m : Meanings D S O C L) (before after : Outside D S O C L) where
   -- of files that open to a list
-  abbrev pub ServesLists : ℕ → Type 0
-  ServesLists number = FilesTell m before → (store : Bytes) (list : History) → length store ≡ 16
-      → OpenTo store (read m before) list → IsServed (store_faults m before) (store_faults m after) number
+  abbrev pub ServesLists : (History → ℕ → ℕ → Type 0) → Type 0
+  ServesLists Served = FilesTell m before → (store : Bytes) (list : History) → length store ≡ 16
+      → OpenTo store (read m before) list → Served list (store_faults m before) (store_faults m after)
 
   -- what each command answers on files that open to a list
   abbrev pub Serves : Option Job → ℕ → Type 0
@@ -101,7 +117,8 @@ module _ {D S O C L : Type 0} (m : Meanings D S O C L) (before after : Outside D
   Serves (Some (Receive name)) number = Unit {0}
   Serves (Some (StandIn store)) number = Unit {0}
   Serves (Some (Drill stories seed)) number = Unit {0}
-  Serves (Some job) number = ServesLists number
+  Serves (Some (Ask entries)) number = ServesLists (λ list was now. IsAskServed entries list was now number)
+  Serves (Some job) number = ServesLists (λ list was now. IsServed was now number)
 
   -- what `receive` answers on a file that is empty or holds the receiver's frames
   abbrev pub ReceiverServes : Option Job → ℕ → Type 0

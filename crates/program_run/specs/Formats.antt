@@ -45,6 +45,12 @@ pub record Formats : Type 1 where
   pub archive_answer : ℕ → Bytes → History → Bytes → Type 0
   -- of a store: what a publication of a list holds
   pub contents_report : Bytes → ℕ → History → Bytes
+  -- of a list: a line for each entry behind the first so many, and the line that says why a publication is due to a
+  -- subscriber or not
+  pub audit : ℕ → History → Bytes
+  pub why_line : ℕ → Bytes → History → Bytes
+  -- what a line of a desk is answered at a list, where it may only ask
+  pub question_answer : History → lines.Member → Bytes
   -- the records of a table behind its head, if it has one: what each asks for, if it is of its form; and the lines in
   -- which is told what became of each
   pub table : Bytes → Option (List (Option Wanted))

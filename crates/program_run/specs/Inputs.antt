@@ -5,6 +5,7 @@ use Rattle.news_types.specs.declared.query.Query.{Query}
 use Rattle.news_types.specs.declared.query.Query.TheVariants as query
 use Rattle.news_types.specs.declared.story.Incoming.{Incoming}
 use Rattle.news_types.specs.Names.{Bytes}
+use Rattle.news_types.specs.History.{History}
 use Rattle.news_types.specs.Answers.{query_answer}
 use Rattle.news_types.specs.Outcome.{Answered, Done, Repeat, Denied}
 use Rattle.news_types.specs.Calls.{Answer, Replied, Tells, Fate}
@@ -40,6 +41,8 @@ use Rattle.package_rules.specs.Report.{contents_report, no_readers_text}
 use Rattle.feed_frames.specs.Writer.{the_writer}
 use Rattle.room_reports.specs.Texts.{feed_report_at, queue_report_at}
 use Rattle.feed_reports.specs.Attempts.{attempt_line}
+use Rattle.told_entries.specs.Entries.{audit}
+use Rattle.list_runs.specs.Why.{why_line}
 use Rattle.drill_plan.specs.Plan.{plan}
 use Rattle.feed_drill.specs.Requests.{given}
 use Rattle.program_run.specs.DrillReport.{drill_report}
@@ -50,6 +53,10 @@ use Rattle.program_run.specs.Formats.{Wanted, Package, Formats}
 -- the longest line, in bytes without its end
 abbrev pub LONGEST_LINE : ℕ
 LONGEST_LINE = 4194304
+
+-- no line asks for a frame
+abbrev pub no_frames : Bytes → ℕ → Bytes
+no_frames s k = []
 
 -- ---- answers of the world as texts
 
@@ -131,6 +138,13 @@ line_input = record {
   text = λ w l. line_text w (asks_for l);
 }
 
+-- what a line is answered at a list, where it may only ask: what a question is told of the newsroom, or a desk
+abbrev pub question_text : History → Result Asked LineProperty → Bytes
+question_text list (Ok (asked.Query query)) = answer_bytes (query_answer no_frames list query)
+question_text list (Ok (asked.Desk question)) = desk_told_bytes (desk_told list question)
+question_text list (Ok what) = bad_bytes property.Ask
+question_text list (Err p) = bad_bytes p
+
 -- ---- stories
 
 abbrev pub story_events : {E : Type 0} → Bytes → Result Incoming E → ℕ → Fate → List Event
@@ -193,9 +207,6 @@ described (Err p) = Err (bad_bytes p ++ 10 ∷ [])
 
 -- ---- all formats of the newsroom
 
-abbrev pub no_frames : Bytes → ℕ → Bytes
-no_frames s k = []
-
 abbrev pub newsroom_formats : Formats
 newsroom_formats = record {
   lines = record { Member = Line; input = line_input };
@@ -209,6 +220,9 @@ newsroom_formats = record {
   attempt_line = attempt_line;
   archive_answer = λ page query h bytes. AnswersQuery h page query bytes;
   contents_report = λ store n h. contents_report h store n;
+  audit = audit;
+  why_line = λ publication subscriber h. why_line h publication subscriber;
+  question_answer = λ h l. question_text h (asks_for l);
   table = table_of;
   import_report = lines_text 1;
   package_of = λ bytes. described (package_object bytes);

@@ -11,6 +11,7 @@ pub mod Imported
 pub mod Published
 pub mod Telling
 pub mod Looked
+pub mod Asked
 pub mod Made
 pub mod Packed
 pub mod Received

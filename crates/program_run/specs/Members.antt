@@ -158,6 +158,14 @@ ReadTo most read more (Err end.Read) = length read ≤ most
 ReadTo most read more (Err end.TooLong) = length read ≡ most + 1
 ReadTo most read more (Err why) = length read ≤ most + 1
 
+module _ {X : Type 0} (input : Input X) where
+  -- the members that were answered or begun, by what ended the run: these bytes were read, and those are still to come
+  abbrev pub MembersOf : List ℕ → List ℕ → Result (Unit {0}) Ending → List X
+  MembersOf read more (Ok u) = input.all read
+  MembersOf read more (Err end.Read) = input.decided read
+  MembersOf read more (Err end.TooLong) = input.decided (take LONGEST_INPUT read)
+  MembersOf read more (Err why) = input.all (read ++ more)
+
 module _ {D S O C L : Type 0} (m : Meanings D S O C L) (before after : Outside D S O C L) where
   -- these bytes were read, and those are still to come, where the input tells it
   pub record WasRead (read more : List ℕ) : Type 0 where
@@ -213,13 +221,6 @@ module _ {D S O C L X : Type 0} (input : Input X) (m : Meanings D S O C L) (befo
         → AreFirst (m.sink.taken before.output ++ texts input write w turns) (m.sink.passed mid)
     pub reads : Reads m.clock before.clock after.clock (turn_readings input turns ++ took)
 
-  -- the members that were answered or begun, by what ended the run: these bytes were read, and those are still to come
-  abbrev pub MembersOf : List ℕ → List ℕ → Result (Unit {0}) Ending → List X
-  MembersOf read more (Ok u) = input.all read
-  MembersOf read more (Err end.Read) = input.decided read
-  MembersOf read more (Err end.TooLong) = input.decided (take LONGEST_INPUT read)
-  MembersOf read more (Err why) = input.all (read ++ more)
-
   -- the input was answered, and the status and its line tell how that ended
   pub record InputAnswered (status : ℕ) (events : List Event) : Type 0 where
     pub ended : Result (Unit {0}) Ending
@@ -229,7 +230,7 @@ module _ {D S O C L X : Type 0} (input : Input X) (m : Meanings D S O C L) (befo
     pub was_read : WasRead m before after read more
     pub read_to : ReadTo LONGEST_INPUT read more ended
     pub mid : O
-    pub answered : Answered mid (MembersOf read more ended) ended events
+    pub answered : Answered mid (MembersOf input read more ended) ended events
     pub causes : Causes (m.source.faults before.input) (m.source.faults after.input) (store_faults m before)
         (store_faults m after) (m.sink.faults before.output) (m.sink.faults mid) ended
     pub line : Told m.sink mid after.output (line_of (status_of ended))

@@ -32,7 +32,8 @@ pub fn run<S: Source, O: Sink, D: Disk, C: Clock, L: Link>(
         (record { log = log; side = side; input = input.old; output = output.old; clock = clock.old; links = links.old.items })
         (record { log = result.1; side = result.2; input = input.new; output = output.new; clock = clock.new; links = links.new.items })
         (job_of words.now) result.0 }
-    // Files that open to a list are never told to be another store's or damaged, and a failed disk is told only where one has failed.
+    // Files that open to a list are never told to be another store's, but where `ask` is given more entries than it has, nor damaged; and a
+    // failed disk is told only where one has failed.
     ensures serves { Serves
         (record { disk = D.disk; source = S.source; sink = O.sink; clock = C.clock; link = L.link })
         (record { log = log; side = side; input = input.old; output = output.old; clock = clock.old; links = links.old.items })

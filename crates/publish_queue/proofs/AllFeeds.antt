@@ -11,7 +11,7 @@ use Rattle.news_types.specs.declared.query.Due.{Due}
 use Rattle.news_types.specs.Names.{Bytes, same, is_in}
 use Rattle.news_types.specs.Due.{Pub, release_to, is_due}
 use Rattle.news_types.specs.Frames.{numbered}
-use Rattle.news_types.specs.Feeds.{Dispatch, due_to, feed_of}
+use Rattle.news_types.specs.Feeds.{Dispatch, due_to}
 use Rattle.std.specs.Prelude.{nat_lt, IsTrue}
 use Rattle.std.proofs.lemmas.Bool.Decides.{nat_tests}
 use Rattle.news_types.specs.Delivery.{ready_from, retry_delay, is_by}

@@ -18,3 +18,4 @@ pub mod Withdrawal
 pub mod AllFeeds
 pub mod Choosing
 pub mod Chosen
+pub mod Found

@@ -10,3 +10,4 @@ pub mod Withdrawn
 pub mod Coming
 pub mod Facts
 pub mod Choice
+pub mod Found

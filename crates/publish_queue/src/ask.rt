@@ -6,6 +6,7 @@ ghost use Rattle.news_types.specs.Feeds.{feed_of};
 ghost use Rattle.news_types.specs.Frames.{numbered};
 ghost use Rattle.publish_queue.specs.Keeps.{Facts, Keeps, number_of, moment_of};
 ghost use Rattle.publish_queue.specs.Facts.{facts_of};
+ghost use Rattle.publish_queue.specs.Found.{Finds, NewestFirst};
 
 use crate::queue::Queue;
 use news_types::{Moment, Name};
@@ -52,6 +53,17 @@ impl Queue {
         let at = self.feeds.find(subscriber)?;
         let index = k.checked_sub(1)? as usize;
         self.feeds.feeds[at].row.release_at(index)
+    }
+
+    /// The entry, counted from 1, with which the feed of a subscriber has the publication of that number, with that release
+    /// for it. Nothing where the feed has no such entry, or the subscriber is not there.
+    pub fn entry(&self, subscriber: &Name, number: u32, release: Moment) -> Option<u32>
+        ensures { (f : Facts) → Keeps self.now f → NewestFirst f.publications →
+            Finds number release (feed_of f.publications f.moment subscriber.now) result }
+    {
+        let at = self.feeds.find(subscriber)?;
+        let k = self.feeds.feeds[at].row.entry(number, release)?;
+        Some(k as u32)
     }
 
     /// How the feed of a subscriber stands. Nothing where the subscriber is not there.

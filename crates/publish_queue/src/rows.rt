@@ -1,6 +1,10 @@
 //! What changes the entries of a feed, and what is read of them.
-ghost use Rattle.std.specs.Prelude.{◌≡◌, ◌+◌, ◌≤◌, [], ◌∷◌, ◌++◌, OnOk, vec_len, vec_capacity, slice_get};
+ghost use Rattle.std.specs.Prelude.{◌≡◌, ◌+◌, ◌≤◌, List, [], ◌∷◌, ◌++◌, map, IfSome, OnOk, vec_len, vec_capacity, slice_get};
+ghost use Rattle.news_types.specs.Feeds.{Dispatch};
 ghost use Rattle.publish_queue.specs.Places.{HasPlaces, KeepsPlaces};
+ghost use Rattle.publish_queue.specs.Steps.{HasEntries};
+ghost use Rattle.publish_queue.specs.Keeps.{number_of, moment_of};
+ghost use Rattle.publish_queue.specs.Found.{AreInRow, Finds};
 
 use crate::release::Release;
 use crate::row::Row;
@@ -61,5 +65,20 @@ impl Row {
         ensures { result ≡ slice_get self.now.releases.items index }
     {
         self.releases.get(index).copied()
+    }
+
+    /// The entry of that number and that release, counted from 1. It is looked for among those of the release alone, and
+    /// found where the entries are in order of release and then number.
+    pub fn entry(&self, number: u32, release: Moment) -> Option<usize>
+        ensures within { IfSome result (λ k. k ≤ vec_len self.now.numbers) }
+        ensures found { (ds : List Dispatch) → HasEntries self.now (map number_of ds) (map moment_of ds) → AreInRow ds
+            → Finds number release ds result }
+    {
+        let first = self.releases.partition_point(|other| *other < release);
+        let count = self.releases[first..].partition_point(|other| *other <= release);
+        let at = self.numbers[first..first + count]
+            .binary_search(&number)
+            .ok()?;
+        Some(first + at + 1)
     }
 }

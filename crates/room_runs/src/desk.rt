@@ -63,7 +63,7 @@ impl<K: Keeper, C: Clock> LineDesk<'_, K, C> {
     {
         let now = self.clock.now();
         match self.room.tick(now) {
-            Ticked::Kept { .. } | Ticked::Still => told(self.alloc, self.room, query),
+            Ticked::Kept { .. } | Ticked::Still => question_told(self.alloc, self.room, query),
             Ticked::Fault => Err(Stopped::Fault),
             Ticked::Full { .. } => Err(Stopped::Full),
         }
@@ -130,7 +130,7 @@ fn found<K: Keeper>(
 }
 
 /// What a desk is told at a room's list as it is, or that a thing that it names is not there.
-fn desk_told<K: Keeper>(
+pub fn desk_told<K: Keeper>(
     alloc: Global,
     room: &Room<K>,
     question: &DeskQuestion,
@@ -146,7 +146,11 @@ fn desk_told<K: Keeper>(
 }
 
 /// The answer to a question at a room's list as it is.
-fn told<K: Keeper>(alloc: Global, room: &Room<K>, query: &Query) -> Result<Vec<u8>, Stopped>
+pub fn question_told<K: Keeper>(
+    alloc: Global,
+    room: &Room<K>,
+    query: &Query,
+) -> Result<Vec<u8>, Stopped>
     requires stands { SomeBook K.keeper room.now }
     requires asks { IsTrue (has_answer query.now) }
     ensures { (b : Book) → Stands K.keeper room.now b → IsText (answer_bytes (query_answer no_frames b.list query.now)) result }

@@ -9,5 +9,7 @@ mod texts;
 mod wire;
 
 pub use batch::answer_input;
+pub use desk::{desk_told, question_told};
 pub use ingest::ingest_input;
-pub use texts::question_answered;
+pub use scope::can_tell;
+pub use texts::{bad_line, question_answered};

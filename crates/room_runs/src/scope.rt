@@ -5,7 +5,7 @@ ghost use Rattle.room_runs.specs.Lines.{has_answer};
 use news_types::Query;
 
 /// Whether a question is one of those that a line may ask.
-pub(crate) fn can_tell(query: &Query) -> bool
+pub fn can_tell(query: &Query) -> bool
     ensures { result ≡ has_answer query.now }
 {
     match query {

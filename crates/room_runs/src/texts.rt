@@ -23,7 +23,7 @@ fn text_of(written: Result<Bytes, Memory>) -> Result<Vec<u8>, Stopped>
 }
 
 /// What a line is answered whose first bad property this is.
-pub(crate) fn bad_line(alloc: Global, property: LineProperty) -> Result<Vec<u8>, Stopped>
+pub fn bad_line(alloc: Global, property: LineProperty) -> Result<Vec<u8>, Stopped>
     ensures { IsText (bad_bytes property) result }
 {
     text_of(bad_text(alloc, property))

@@ -54,6 +54,13 @@ impl Routes {
         })
     }
 
+    /// The rules of the scheme that it was made of. It takes no memory.
+    pub fn rules(&self) -> &[Rule]
+        ensures { result.now ≡ self.now }
+    {
+        self.scheme.as_slice()
+    }
+
     /// The actions of the rules that apply to the story at the moment, in order, each rule's fetch, publish and exit,
     /// up to and with the first exit.
     ///

@@ -3,3 +3,4 @@ pub mod Absent
 pub mod SameSources
 pub mod Releases
 pub mod Routing
+pub mod Telling

@@ -1,7 +1,7 @@
 -- The reasons of each table are those of the list.
-use Rattle.std.proofs.Common.{◌≡◌, ℕ, Bool, true, false, not, ◌&&◌, cond, List, [], ◌∷◌, ◌++◌, length, Option, Some, None, is_some, refl, sym, ap, ◌∙◌}
+use Rattle.std.proofs.Common.{◌≡◌, ℕ, Bool, true, false, not, ◌&&◌, List, [], ◌∷◌, ◌++◌, Option, Some, None, is_some, refl, sym, ap, ◌∙◌}
 use Rattle.std.specs.List.{filter}
-use Rattle.std.specs.Prelude.{IsTrue, flat_map, if◌then◌else◌}
+use Rattle.std.specs.Prelude.{flat_map}
 use Rattle.std.proofs.lemmas.Bool.{false≢true}
 use Rattle.news_types.specs.declared.command.Command.{Command}
 use Rattle.news_types.specs.declared.command.Command.TheVariants.{AddUser, SetUser, AddDesk, AddStage, SetMember, AddCondition, AddFilter, SetFilter, SetBlock, AddProduct, SetProduct, AddSubscriber, SetSubscriber, AddScheme, AddProvider}
@@ -17,15 +17,16 @@ use Rattle.news_types.specs.Desks.{is_desk, is_stage, desk_count, stage_count}
 use Rattle.news_types.specs.Conditions.{condition, condition_count}
 use Rattle.news_types.specs.Filters.{filters}
 use Rattle.news_types.specs.Routing.{scheme, scheme_count, provider, provider_count, is_scheme}
-use Rattle.news_types.specs.Denial.{unless, or_else, first_of, absent, absent_in_rule, absent_if_given, first_missing, missing, is_taken, order_denial, operand_denial, limit_denial, full}
+use Rattle.news_types.specs.Denial.{unless, or_else, absent, absent_in_rule, absent_if_given, first_missing, missing, is_taken, operand_denial, full}
 use Rattle.news_types.proofs.Members.{none_some}
 use Rattle.news_types.proofs.Legal.{holds_unless}
-use Rattle.desk_rules.specs.Asked.{is_of_desks, adds_one, missing_here, knows_denial, full_denial}
-use Rattle.content_filters.specs.Reasons.{is_filter_command, filter_operand, filter_denial, denial_by}
+use Rattle.desk_rules.specs.Asked.{is_of_desks, adds_one, knows_denial, full_denial}
+use Rattle.content_filters.specs.Reasons.{filter_operand, filter_denial, denial_by}
 use Rattle.content_filters.proofs.Facts.{by_list}
 use Rattle.products.specs.Asked.{is_asked, judge_denial}
+use Rattle.name_rolls.specs.Steps.{Finds}
 use Rattle.rule_tables.specs.Asked.{is_desk_command, IsAllowed}
-use Rattle.rule_tables.specs.Sources.{is_source_command, IsNew}
+use Rattle.rule_tables.specs.Sources.{IsNew}
 
 pub or_none : (o : Option Denial) → or_else o None ≡ o
 or_none None = refl
@@ -135,3 +136,14 @@ pub provider_by : (h : History) (name : Bytes) (given : Option Bytes) (m : Optio
 provider_by h name given m t n one two three =
     rw (one, two, three)
     (ap (λ (o : Option Denial). or_else (first_missing (absent_if_given (λ other. is_some (scheme h other)) thing.Scheme given)) (or_else (unless (not (is_some (provider h name))) NameTaken) o)) (sym (or_none (full thing.Provider (provider_count h)))))
+
+-- ---- names in order
+
+present : (b : Bool) → absent b thing.Desk ≡ [] → b ≡ true
+present true is = refl
+present false is = cc
+
+pub rolls_find : (h : History) (command : Command) → IsAllowed h command → Finds command h
+rolls_find h (AddDesk desk) allowed = not_taken (is_desk h desk) allowed.new
+rolls_find h (AddStage desk stage) allowed = present (is_desk h desk) (none_missing (missing h (AddStage desk stage)) allowed.named)
+rolls_find h _ allowed = tt

@@ -4,3 +4,4 @@ pub mod Asked
 pub mod Steps
 pub mod Releases
 pub mod Routed
+pub mod Listed

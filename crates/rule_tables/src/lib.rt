@@ -1,4 +1,5 @@
-//! The tables that commands alone change: users and desks, filters, products and subscribers, schemes and providers.
+//! The tables that commands alone change: users and desks, filters, products and subscribers, schemes and providers, and the
+//! names of all of them in order.
 #![tactic(auto)]
 
 mod ask;
@@ -6,6 +7,7 @@ mod deny;
 mod due;
 mod ingest;
 mod judge;
+mod listed;
 mod reach;
 mod route;
 mod rules;

@@ -13,17 +13,19 @@ ghost use Rattle.rule_tables.specs.Steps.{HasRoom, IsFor};
 use crate::sources::{SourceChange, Sources};
 use content_filters::{FilterChange, Filters};
 use desk_rules::{DeskChange, Desks};
+use name_rolls::{RollChange, Rolls};
 use news_types::{Command, Memory, Name};
 use products::{ProductChange, Products};
 use std::alloc::Global;
 
-/// Users and desks, filters, products and subscribers, schemes and providers.
+/// Users and desks, filters, products and subscribers, schemes and providers, and the names of all of them in order.
 #[derive(Drop)]
 pub struct Rules {
     pub(crate) desks: Desks,
     pub(crate) filters: Filters,
     pub(crate) products: Products,
     pub(crate) sources: Sources,
+    pub(crate) rolls: Rolls,
 }
 
 /// A change by a command, with the memory for it taken. One that is dropped changes nothing.
@@ -33,6 +35,7 @@ pub struct RuleChange {
     pub(crate) filters: FilterChange,
     pub(crate) products: ProductChange,
     pub(crate) sources: SourceChange,
+    pub(crate) rolls: RollChange,
 }
 
 impl Rules {
@@ -45,6 +48,7 @@ impl Rules {
             filters: Filters::new(alloc)?,
             products: Products::new(alloc)?,
             sources: Sources::new(alloc),
+            rolls: Rolls::new(alloc)?,
         })
     }
 
@@ -59,11 +63,13 @@ impl Rules {
         let filters = self.filters.prepare(command)?;
         let products = self.products.prepare(command)?;
         let sources = self.sources.prepare(command)?;
+        let rolls = self.rolls.prepare(command)?;
         Ok(RuleChange {
             desks,
             filters,
             products,
             sources,
+            rolls,
         })
     }
 
@@ -78,10 +84,12 @@ impl Rules {
             filters,
             products,
             sources,
+            rolls,
         } = change;
         self.desks.commit(desks);
         self.filters.commit(filters);
         self.products.commit(products);
         self.sources.commit(sources);
+        self.rolls.commit(rolls);
     }
 }

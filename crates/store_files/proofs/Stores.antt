@@ -1,6 +1,6 @@
 -- A log and its side that are opened as a room, or refused.
-use Rattle.std.proofs.Common.{◌≡◌, ◌⊎◌, inl, inr, ℕ, ◌+◌, ◌<◌, ◌^◌, List, [], ◌∷◌, ◌++◌, length, Option, Some, None, true, false, refl, sym, ◌∙◌, ap, subst, arith, length-append}
-use Rattle.std.specs.Prelude.{Result, Ok, Err, IfOk, IfErr, IfSome, All}
+use Rattle.std.proofs.Common.{◌≡◌, ◌⊎◌, inl, inr, ℕ, ◌+◌, ◌<◌, ◌^◌, List, [], ◌∷◌, ◌++◌, length, map, None, true, false, refl, sym, ◌∙◌, ap, subst, arith, length-append}
+use Rattle.std.specs.Prelude.{Result, Ok, Err, IfOk, IfErr, All}
 use Rattle.std.specs.Int.{w32, to_be_bytes}
 use Rattle.news_types.specs.Names.{Bytes}
 use Rattle.news_types.specs.History.{History}
@@ -25,15 +25,15 @@ use Rattle.news_pair.specs.declared.pair.Pair.{Pair}
 use Rattle.news_pair.specs.declared.fault.PairFault.{PairFault}
 use Rattle.news_pair.specs.declared.fault.PairFault.TheVariants as pair_fault
 use Rattle.news_pair.specs.declared.opening.OpenedPair.{OpenedPair}
-use Rattle.news_room.specs.Log.{sizes}
-use Rattle.news_room.specs.Opening.{IsFault, HasBadRecord, IsOpened}
+use Rattle.news_room.specs.Log.{OpensTo, sizes}
+use Rattle.news_room.specs.Opening.{IsFault, HasBadRecord, IsOpened, bytes_of}
 use Rattle.news_room.specs.declared.answers.RoomFault.{RoomFault}
 use Rattle.news_room.specs.declared.answers.RoomFault.TheVariants as room_fault
 use Rattle.news_room.specs.declared.room.Room.{Room}
 use Rattle.store_files.specs.Kinds.{IsKind, IsOther}
 use Rattle.store_files.specs.declared.kinds.LogKind.TheVariants.{Room as of_room}
 use Rattle.store_files.proofs.Counts.{rose_right}
-use Rattle.store_files.specs.Store.{Opens, Cause, SideCause, TroubleCounts, IsNoRoom, IsRoomOf, Reopens, IsRefused, IsOpenRoom}
+use Rattle.store_files.specs.Store.{Opens, Cause, SideCause, TroubleCounts, IsNoRoom, IsRoomOf, Reopens, IsRefused, IsOpenRoom, IsOpenListed, IsListedOf}
 use Rattle.store_files.specs.Trouble.{trouble_of_pair, trouble_of_room}
 use Rattle.store_files.specs.declared.trouble.Trouble.{Trouble}
 use Rattle.store_files.specs.declared.trouble.Trouble.TheVariants as trouble
@@ -196,7 +196,7 @@ module _ {D : Type 0} (disk : DiskMeaning D) where
         still = λ told'. still_then side mid' side' still' (after (still'.told told'));
       }
 
-      pub err_behind : (r : Result (Room (Pair D)) (D × D × Trouble))
+      pub err_behind : {T : Type 0} (r : Result T (D × D × Trouble))
           → (disk.tells mid → disk.tells mid' → (IsOther (disk.seen mid) (disk.seen mid') → ⊥) → IfErr r (λ e. Cause (disk.seen mid) (disk.seen mid') e.2))
           → IfErr r (λ e. TroubleCounts (disk.faults mid + disk.faults mid') (disk.faults e.0 + disk.faults e.1) e.2)
           → (disk.tells mid → disk.tells mid' → IfErr r (λ e. Reopens disk mid mid' e.0 e.1)) → (disk.tells mid' → IfErr r (λ e. Same mid' e.1))
@@ -222,8 +222,12 @@ module _ {D : Type 0} (disk : DiskMeaning D) where
       still = λ told'. still_then side mid' (side_disk r.keeper) still' (o.still (still'.told told'));
     }
 
-    pub opened_behind : (r : Result (Room (Pair D)) (D × D × Trouble)) → IfOk r (IsOpenRoom disk mid mid') → IfOk r (IsOpenRoom disk log side)
-    opened_behind (Ok r) o = room_behind r o
+    listed_behind : (r : Room (Pair D)) (records : List Record) → IsOpenListed disk mid mid' r records → IsOpenListed disk log side r records
+    unfolding room_behind
+    listed_behind r records o = record { room = room_behind r o.room; few = o.few; places = o.places; opens = o.opens }
+
+    pub opened_behind : (r : Result (Room (Pair D) × List Record) (D × D × Trouble)) → IfOk r (λ l. IsOpenListed disk mid mid' l.0 l.1) → IfOk r (λ l. IsOpenListed disk log side l.0 l.1)
+    opened_behind (Ok l) o = listed_behind l.0 l.1 o
     opened_behind (Err e) o = tt
 
   module _ (log side : D) (opened : OpenedPair D) where
@@ -231,25 +235,25 @@ module _ {D : Type 0} (disk : DiskMeaning D) where
     abbrev IsNone : D × D × Trouble → Type 0
     IsNone e = (e.0 ≡ log_disk opened.pair) × (e.1 ≡ side_disk opened.pair) × IsNoRoom opened.header opened.records e.2
 
-    pub err_cause : (r : Result (Room (Pair D)) (D × D × Trouble)) → opened.records ≡ pair_records (disk.seen log) (disk.seen side) → OpensAs opened.header opened.records (disk.seen log) (disk.seen side) → pair_damage (disk.seen log) (disk.seen side) ≡ None
+    pub err_cause : {T : Type 0} (r : Result T (D × D × Trouble)) → opened.records ≡ pair_records (disk.seen log) (disk.seen side) → OpensAs opened.header opened.records (disk.seen log) (disk.seen side) → pair_damage (disk.seen log) (disk.seen side) ≡ None
         → (IsOther (disk.seen log) (disk.seen side) → ⊥) → IfErr r IsNone → IfErr r (λ e. Cause (disk.seen log) (disk.seen side) e.2)
     err_cause (Ok r) are opens whole other none = tt
     err_cause (Err e) are opens whole other none = no_room_cause opened.header opened.records (disk.seen log) (disk.seen side) e.2 are opens whole other none.2
 
-    pub err_counts : (r : Result (Room (Pair D)) (D × D × Trouble)) → disk.faults (log_disk opened.pair) + disk.faults (side_disk opened.pair) ≡ disk.faults log + disk.faults side
+    pub err_counts : {T : Type 0} (r : Result T (D × D × Trouble)) → disk.faults (log_disk opened.pair) + disk.faults (side_disk opened.pair) ≡ disk.faults log + disk.faults side
         → IfErr r IsNone → IfErr r (λ e. TroubleCounts (disk.faults log + disk.faults side) (disk.faults e.0 + disk.faults e.1) e.2)
     err_counts (Ok r) calm none = tt
     err_counts (Err e) calm none =
         no_room_counts opened.header opened.records (disk.faults log + disk.faults side) (disk.faults e.0 + disk.faults e.1) e.2
         (ap (λ (d : D). disk.faults d + disk.faults e.1) none.0 ∙ ap (λ (d : D). disk.faults (log_disk opened.pair) + disk.faults d) none.1 ∙ calm) none.2
 
-    pub err_crash : (r : Result (Room (Pair D)) (D × D × Trouble)) → Reopens disk log side (log_disk opened.pair) (side_disk opened.pair)
+    pub err_crash : {T : Type 0} (r : Result T (D × D × Trouble)) → Reopens disk log side (log_disk opened.pair) (side_disk opened.pair)
         → IfErr r IsNone → IfErr r (λ e. Reopens disk log side e.0 e.1)
     err_crash (Ok r) crash none = tt
     err_crash (Err e) crash none =
         subst (λ (d : D). Reopens disk log side d e.1) (sym none.0) (subst (λ (d : D). Reopens disk log side (log_disk opened.pair) d) (sym none.1) crash)
 
-    pub err_still : (r : Result (Room (Pair D)) (D × D × Trouble)) → Same side (side_disk opened.pair) → IfErr r IsNone → IfErr r (λ e. Same side e.1)
+    pub err_still : {T : Type 0} (r : Result T (D × D × Trouble)) → Same side (side_disk opened.pair) → IfErr r IsNone → IfErr r (λ e. Same side e.1)
     err_still (Ok r) still none = tt
     err_still (Err e) still none = subst (λ (d : D). Same side d) (sym none.1) still
 
@@ -294,6 +298,15 @@ module _ {D : Type 0} (disk : DiskMeaning D) where
           still = λ told'. subst (λ (p : Pair D). Same side (side_disk p)) (sym o.room.keeper_is) (still told');
         }
 
-      pub opened_room : (r : Result (Room (Pair D)) (D × D × Trouble)) → IfOk r (IsRoomOf disk opened) → IfOk r (IsOpenRoom disk log side)
-      opened_room (Ok r) o = room_of_pair r o
+      listed_of_pair : (r : Room (Pair D)) (rs : List Record) → IsListedOf disk opened r rs → IsOpenListed disk log side r rs
+      unfolding room_of_pair
+      listed_of_pair r rs o = record {
+        room = room_of_pair r o.room;
+        few = o.few;
+        places = o.places;
+        opens = subst (λ (l : List Record). OpensTo (map bytes_of l) o.room.room.history) (sym o.records_are) o.room.room.opens;
+      }
+
+      pub opened_room : (r : Result (Room (Pair D) × List Record) (D × D × Trouble)) → IfOk r (λ l. IsListedOf disk opened l.0 l.1) → IfOk r (λ l. IsOpenListed disk log side l.0 l.1)
+      opened_room (Ok l) o = listed_of_pair l.0 l.1 o
       opened_room (Err e) o = tt

@@ -1,5 +1,5 @@
 -- What the bytes of a log and its side open to, and why they do not serve.
-use Rattle.std.specs.Prelude.{◌≡◌, ◌⊎◌, ℕ, ◌+◌, Bool, true, false, List, Option, Some, None, length}
+use Rattle.std.specs.Prelude.{◌≡◌, ◌⊎◌, ℕ, ◌+◌, ◌<◌, Bool, true, false, List, map, All, Option, Some, None, length}
 use Rattle.news_types.specs.Names.{Bytes}
 use Rattle.news_types.specs.History.{History}
 use Rattle.news_types.specs.Doubt as doubt
@@ -19,8 +19,8 @@ use Rattle.news_pair.specs.Damage.{pair_damage}
 use Rattle.news_pair.specs.Opened.{OpensStill}
 use Rattle.news_pair.specs.Stands.{log_disk, side_disk}
 use Rattle.news_pair.specs.Keeper.{pair_of}
-use Rattle.news_room.specs.Log.{IsStored}
-use Rattle.news_room.specs.Opening.{HasBadRecord}
+use Rattle.news_room.specs.Log.{IsStored, OpensTo}
+use Rattle.news_room.specs.Opening.{HasBadRecord, bytes_of}
 use Rattle.news_room.specs.Opening as room
 use Rattle.news_room.specs.declared.room.Room.{Room}
 use Rattle.store_files.specs.Holds.{Holds}
@@ -83,6 +83,13 @@ pub record IsRoomOf {D : Type 0} (disk : DiskMeaning D) (opened : OpenedPair D) 
   pub header_is : opened.header ≡ header.Room store
   pub room : room.IsOpened (pair_of disk) opened.pair store opened.records r
 
+-- the same, with the pair's records
+pub record IsListedOf {D : Type 0} (disk : DiskMeaning D) (opened : OpenedPair D) (r : Room (Pair D)) (records : List Record) : Type 0 where
+  pub room : IsRoomOf disk opened r
+  pub few : length records < 2147483648
+  pub places : All (λ (x : Record). x.at < 4294967296) records
+  pub records_are : records ≡ opened.records
+
 module _ {D : Type 0} (disk : DiskMeaning D) where
   -- a crash leaves a log as before, or one that opens to the same list with whatever the side then is: its base may have been put right
   abbrev pub Reopens : D → D → D → D → Type 0
@@ -110,3 +117,10 @@ module _ {D : Type 0} (disk : DiskMeaning D) where
     pub crash : disk.tells log → disk.tells side
         → DiskGains disk log (log_disk r.keeper) (λ c. disk.may_leave log c ⊎ ((s : List ℕ) → disk.may_leave (side_disk r.keeper) s → Opens c s store history))
     pub still : disk.tells side → Still disk side (side_disk r.keeper)
+
+  -- the room of a log and its side, and the records of its list: they are few, and each stands at a place that a file can have
+  pub record IsOpenListed (log side : D) (r : Room (Pair D)) (records : List Record) : Type 0 where
+    pub room : IsOpenRoom log side r
+    pub few : length records < 2147483648
+    pub places : All (λ (x : Record). x.at < 4294967296) records
+    pub opens : OpensTo (map bytes_of records) room.history

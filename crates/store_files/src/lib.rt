@@ -8,5 +8,5 @@ mod trouble;
 
 pub use kinds::is_empty;
 pub use law::served_law;
-pub use store::open_room;
+pub use store::{open_listed, open_room};
 pub use trouble::Trouble;

@@ -4,12 +4,12 @@ ghost use Rattle.news_journal.specs.Opened.{Still, AreFew};
 ghost use Rattle.news_pair.specs.Damage.{pair_damage};
 ghost use Rattle.news_pair.specs.Stands.{log_disk, side_disk};
 ghost use Rattle.store_files.specs.Kinds.{IsOther, IsOtherSide};
-ghost use Rattle.store_files.specs.Store.{IsRefused, IsOpenRoom, IsRoomOf, IsNoRoom, Reopens, Cause, SideCause, TroubleCounts};
+ghost use Rattle.store_files.specs.Store.{IsRefused, IsOpenRoom, IsOpenListed, IsListedOf, IsNoRoom, Reopens, Cause, SideCause, TroubleCounts};
 
 use crate::kinds::{LogKind, is_other_side, log_kind};
 use crate::trouble::Trouble;
 use news_io::{Disk, Keeper};
-use news_journal::Header;
+use news_journal::{Header, Records};
 use news_pair::{OpenedPair, Pair};
 use news_room::Room;
 use std::alloc::Global;
@@ -17,12 +17,26 @@ use uuid::Uuid;
 
 /// The room of a log and its side, or why there is none. The headers are asked first: a file of another kind is the wrong
 /// store, whatever its records are.
-pub fn open_room<D: Disk>(
+pub fn open_room<D: Disk>(alloc: Global, log: D, side: D) -> Result<Room<Pair<D>>, (D, D, Trouble)>
+    ensures opened { IfOk result (IsOpenRoom D.disk log side) }
+    ensures refused { IfErr result (λ e. IsRefused D.disk log side e.0 e.1 e.2) }
+{
+    match open_listed(alloc, log, side) {
+        Ok((room, records)) => {
+            drop(records);
+            Ok(room)
+        }
+        Err(refused) => Err(refused),
+    }
+}
+
+/// The room of a log and its side, as `open_room` gives it, and the records of its list, in order; or why there is none.
+pub fn open_listed<D: Disk>(
     alloc: Global,
     mut log: D,
     mut side: D,
-) -> Result<Room<Pair<D>>, (D, D, Trouble)>
-    ensures opened { IfOk result (IsOpenRoom D.disk log side) }
+) -> Result<(Room<Pair<D>>, Records), (D, D, Trouble)>
+    ensures opened { IfOk result (λ listed. IsOpenListed D.disk log side listed.0 listed.1) }
     ensures refused { IfErr result (λ e. IsRefused D.disk log side e.0 e.1 e.2) }
 {
     match refuse_other_kinds(alloc, &mut log, &mut side) {
@@ -61,8 +75,12 @@ fn refuse_other_kinds<D: Disk>(alloc: Global, log: &mut D, side: &mut D) -> Resu
 }
 
 /// The room of files that may be a newsroom's, or why there is none: only then is damage told as it stands.
-fn open_pair<D: Disk>(alloc: Global, log: D, side: D) -> Result<Room<Pair<D>>, (D, D, Trouble)>
-    ensures opened { IfOk result (IsOpenRoom D.disk log side) }
+fn open_pair<D: Disk>(
+    alloc: Global,
+    log: D,
+    side: D,
+) -> Result<(Room<Pair<D>>, Records), (D, D, Trouble)>
+    ensures opened { IfOk result (λ listed. IsOpenListed D.disk log side listed.0 listed.1) }
     ensures cause { D.disk.tells log → D.disk.tells side → (IsOther (D.disk.seen log) (D.disk.seen side) → ⊥) → IfErr result (λ e. Cause (D.disk.seen log) (D.disk.seen side) e.2) }
     ensures count { IfErr result (λ e. TroubleCounts (D.disk.faults log + D.disk.faults side) (D.disk.faults e.0 + D.disk.faults e.1) e.2) }
     ensures crash { D.disk.tells log → D.disk.tells side → IfErr result (λ e. Reopens D.disk log side e.0 e.1) }
@@ -75,9 +93,12 @@ fn open_pair<D: Disk>(alloc: Global, log: D, side: D) -> Result<Room<Pair<D>>, (
 }
 
 /// The room of a pair's records.
-fn room_of<D: Disk>(alloc: Global, opened: OpenedPair<D>) -> Result<Room<Pair<D>>, (D, D, Trouble)>
+fn room_of<D: Disk>(
+    alloc: Global,
+    opened: OpenedPair<D>,
+) -> Result<(Room<Pair<D>>, Records), (D, D, Trouble)>
     requires few { AreFew opened.records }
-    ensures room { IfOk result (IsRoomOf D.disk opened) }
+    ensures room { IfOk result (λ listed. IsListedOf D.disk opened listed.0 listed.1) }
     ensures none { IfErr result (λ e. (e.0 ≡ log_disk opened.pair) × (e.1 ≡ side_disk opened.pair) × IsNoRoom opened.header opened.records e.2) }
 {
     let OpenedPair {
@@ -90,7 +111,7 @@ fn room_of<D: Disk>(alloc: Global, opened: OpenedPair<D>) -> Result<Room<Pair<D>
         return Err((log, side, Trouble::WrongStore));
     };
     match Room::open(alloc, pair, store, records.as_slice()) {
-        Ok(room) => Ok(room),
+        Ok(room) => Ok((room, records)),
         Err((pair, fault)) => {
             let (log, side) = pair.into_disks();
             Err((log, side, Trouble::from(fault)))

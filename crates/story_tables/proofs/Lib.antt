@@ -24,3 +24,4 @@ pub mod LastOf
 pub mod Holding
 pub mod Newest
 pub mod Viewed
+pub mod Placed

@@ -1,10 +1,11 @@
 -- Items of an array, one more at their end.
 use Rattle.std.specs.Prelude.{◌≡◌, List, [], ◌∷◌, ◌++◌, Bool, true, false, ◌||◌}
 use Rattle.std.proofs.Common.{refl, ap}
-use Rattle.serde_json.specs.Data.{Items, no_items, item}
+use Rattle.serde_json.specs.Data.{Items, no_items, item, object, Members}
 use Rattle.serde_json.specs.View.{view, items_view}
 use Rattle.serde_json.specs.Written.{has_float, items_have_float}
 use Rattle.serde_json.specs.declared.value.Value.{Value}
+use Rattle.told_objects.specs.Members.{objects}
 
 -- some items and then others
 abbrev pub items_then : Items → Items → Items
@@ -28,3 +29,8 @@ plain_pushed [] v none plain = rw plain refl
 plain_pushed (x ∷ xs) v none plain =
     let parts = or_parts (has_float (view x)) (items_have_float (items_view xs)) none in
     rw parts.0 (plain_pushed xs v parts.1 plain)
+
+-- an object more at the end
+pub objects_more : {A : Type 0} (f : A → Members) (xs : List A) (x : A) → objects f (xs ++ x ∷ []) ≡ items_then (objects f xs) (item (object (f x)) no_items)
+objects_more f [] x = refl
+objects_more f (y ∷ xs) x = ap (item (object (f y))) (objects_more f xs x)

@@ -25,6 +25,13 @@ null key members = put (codes key) json.null members
 abbrev pub inner : String → Members → Members → Members
 inner key inside members = put (codes key) (json.object inside) members
 
+abbrev pub strings : {A : Type 0} → (A → List ℕ) → List A → Items
+strings text_of [] = no_items
+strings text_of (x ∷ xs) = item (json.string (text_of x)) (strings text_of xs)
+
+abbrev pub texts : String → List (List ℕ) → Members → Members
+texts key them members = put (codes key) (json.array (strings (λ text. text) them)) members
+
 abbrev pub objects : {A : Type 0} → (A → Members) → List A → Items
 objects members_of [] = no_items
 objects members_of (x ∷ xs) = item (json.object (members_of x)) (objects members_of xs)

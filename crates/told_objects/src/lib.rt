@@ -5,4 +5,4 @@ mod object;
 mod told;
 
 pub use object::Object;
-pub use told::Shown;
+pub use told::{Shown, Spelled};

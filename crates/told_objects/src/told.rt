@@ -1,5 +1,5 @@
 //! Members are put into an object one after another, and stand in byte order of their keys.
-ghost use Rattle.std.specs.Prelude.{◌≡◌, IfOk, false, List, codes};
+ghost use Rattle.std.specs.Prelude.{◌≡◌, IfOk, false, List, ℕ, codes};
 ghost use Rattle.serde_json.specs.Data as json;
 ghost use Rattle.serde_json.specs.Data.{put, no_members};
 ghost use Rattle.serde_json.specs.View.{view, items_view};
@@ -8,7 +8,7 @@ ghost use Rattle.told_objects.specs.Members as said;
 ghost use Rattle.told_objects.specs.Seen.{seen};
 
 use crate::object::Object;
-use news_types::{Bytes, Memory};
+use news_types::{Bytes, Memory, Name, Text};
 use serde_json::{Map, Value};
 use std::alloc::{AllocError, Global};
 
@@ -85,6 +85,22 @@ impl Object {
         self.with(key, Value::Array(list))
     }
 
+    /// The object with a list of objects more, which are there already.
+    pub fn rows(self, key: &str, rows: Vec<Object>) -> Result<Object, AllocError>
+        ensures { IfOk result (λ told. seen told ≡ put key.now (json.array (said.objects seen rows.items)) (seen self)) }
+    {
+        let list = values(self.alloc, rows)?;
+        self.with(key, Value::Array(list))
+    }
+
+    /// The object with a list of texts more.
+    pub fn texts<T: Spelled>(self, key: &str, texts: &[T]) -> Result<Object, AllocError>
+        ensures { IfOk result (λ told. seen told ≡ put key.now (json.array (said.strings T.text_of texts.now)) (seen self)) }
+    {
+        let list = strings(self.alloc, texts)?;
+        self.with(key, Value::Array(list))
+    }
+
     fn into_value(self) -> Value
         ensures value { view result ≡ json.object (seen self) }
         ensures plain { has_float (view result) ≡ false }
@@ -110,6 +126,31 @@ pub trait Shown {
         ensures { IfOk result (λ told. seen told ≡ members self.now) };
 }
 
+/// What is told as a text.
+pub trait Spelled {
+    ghost text_of: { Self → List ℕ };
+
+    /// Its characters.
+    fn spelled(&self) -> &str
+        ensures { result.now ≡ text_of self.now };
+}
+
+impl Spelled for Name {
+    ghost text_of = { λ name. name };
+
+    fn spelled(&self) -> &str {
+        self.as_str()
+    }
+}
+
+impl Spelled for Text {
+    ghost text_of = { λ text. text };
+
+    fn spelled(&self) -> &str {
+        self.as_str()
+    }
+}
+
 fn objects<T: Shown>(alloc: Global, rows: &[T]) -> Result<Vec<Value>, AllocError>
     ensures rows { IfOk result (λ list. items_view list.items ≡ said.objects T.members rows.now) }
     ensures plain { IfOk result (λ list. items_have_float (items_view list.items) ≡ false) }
@@ -117,6 +158,28 @@ fn objects<T: Shown>(alloc: Global, rows: &[T]) -> Result<Vec<Value>, AllocError
     let mut list = Vec::new(alloc);
     for row in rows {
         list.push(row.shown(alloc)?.into_value())?;
+    }
+    Ok(list)
+}
+
+fn values(alloc: Global, rows: Vec<Object>) -> Result<Vec<Value>, AllocError>
+    ensures rows { IfOk result (λ list. items_view list.items ≡ said.objects seen rows.items) }
+    ensures plain { IfOk result (λ list. items_have_float (items_view list.items) ≡ false) }
+{
+    let mut list = Vec::new(alloc);
+    for row in rows {
+        list.push(row.into_value())?;
+    }
+    Ok(list)
+}
+
+fn strings<T: Spelled>(alloc: Global, texts: &[T]) -> Result<Vec<Value>, AllocError>
+    ensures rows { IfOk result (λ list. items_view list.items ≡ said.strings T.text_of texts.now) }
+    ensures plain { IfOk result (λ list. items_have_float (items_view list.items) ≡ false) }
+{
+    let mut list = Vec::new(alloc);
+    for text in texts {
+        list.push(Value::try_from_str(alloc, text.spelled())?)?;
     }
     Ok(list)
 }

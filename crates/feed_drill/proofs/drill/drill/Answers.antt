@@ -50,6 +50,10 @@ returns-clause-report g c =
 read_planned : {C : Type 0} (clock : ClockMeaning C) (asked planned : List Planned) (old new : C) → asked ≡ planned → IsRead clock (length asked) old new → IsReadAtMost clock (length planned) old new
 read_planned clock asked planned old new same read = subst (λ (l : List Planned). IsReadAtMost clock (length l) old new) same (read_for_all clock (length asked) old new read)
 
+pub returns-clause-read : goal.returns-clause-read
+returns-clause-read g c =
+    subst (λ (l : List Planned). IsRead g.C.Clock.clock (length l) c.args.clock.now c.ask_all.new.clock) c.in_ok-new.ensures c.in_ok-ask_all.ensures.read
+
 pub returns-in_err-room-clause-stopped : goal.returns-in_err-room-clause-stopped
 returns-in_err-room-clause-stopped g c = on_err c.from_residual.result (read_for_none g.C.Clock.clock _ c.args.clock.now)
 

@@ -198,3 +198,39 @@ returns-in-StandIn-clause-stands_in g c told told' = rw c.in-StandIn.is (λ held
 
 pub returns-in-StandIn-clause-links : goal.returns-in-StandIn-clause-links
 returns-in-StandIn-clause-links g c other = refl
+
+pub returns-in-Audit-clause-does : goal.returns-in-Audit-clause-does
+returns-in-Audit-clause-does g c = rw c.in-Audit.is (record { input_same = refl; clock_same = refl }, c.audit_list.ensures)
+
+pub returns-in-Audit-clause-receives : goal.returns-in-Audit-clause-receives
+returns-in-Audit-clause-receives g c told = rw c.in-Audit.is tt
+
+pub returns-in-Audit-clause-stands_in : goal.returns-in-Audit-clause-stands_in
+returns-in-Audit-clause-stands_in g c told told' = rw c.in-Audit.is tt
+
+pub returns-in-Audit-clause-links : goal.returns-in-Audit-clause-links
+returns-in-Audit-clause-links g c other = refl
+
+pub returns-in-Ask-clause-does : goal.returns-in-Ask-clause-does
+returns-in-Ask-clause-does g c = rw c.in-Ask.is (refl, c.ask_past.ensures)
+
+pub returns-in-Ask-clause-receives : goal.returns-in-Ask-clause-receives
+returns-in-Ask-clause-receives g c told = rw c.in-Ask.is tt
+
+pub returns-in-Ask-clause-stands_in : goal.returns-in-Ask-clause-stands_in
+returns-in-Ask-clause-stands_in g c told told' = rw c.in-Ask.is tt
+
+pub returns-in-Ask-clause-links : goal.returns-in-Ask-clause-links
+returns-in-Ask-clause-links g c other = refl
+
+pub returns-in-Why-clause-does : goal.returns-in-Why-clause-does
+returns-in-Why-clause-does g c = rw c.in-Why.is (record { input_same = refl; clock_same = refl }, c.explain.ensures)
+
+pub returns-in-Why-clause-receives : goal.returns-in-Why-clause-receives
+returns-in-Why-clause-receives g c told = rw c.in-Why.is tt
+
+pub returns-in-Why-clause-stands_in : goal.returns-in-Why-clause-stands_in
+returns-in-Why-clause-stands_in g c told told' = rw c.in-Why.is tt
+
+pub returns-in-Why-clause-links : goal.returns-in-Why-clause-links
+returns-in-Why-clause-links g c other = refl

@@ -1,13 +1,24 @@
-use Rattle.std.proofs.Common.{◌∙◌, sym, ap, subst}
+use Rattle.std.proofs.Common.{◌∙◌, refl, sym, ap, subst}
 use Rattle.news_types.specs.Fits.{FitsStory}
 use Rattle.package_rules.specs.declared.publish.Packaged.{Packaged}
 use Rattle.package_rules.specs.Readers.{readers}
 use Rattle.package_rules.specs.Publishing.{FlashStep, IsFlashed}
-use Rattle.package_rules.proofs.Publishing.{not_empty, flash_happens, flash_step}
+use Rattle.package_rules.proofs.Publishing.{not_empty, is_nothing, flash_happens, flash_step}
 use Rattle.package_rules.proofs.publish.flash_package.Goals as goal
 
 pub request-requires-clause-fits : goal.request-requires-clause-fits
 request-requires-clause-fits g c = (subst FitsStory (sym (c.in-Ok-copy.ensures ∙ c.story.ensures.story)) c.story.ensures.fits, c.in-Ok.ensures.few)
+
+pub returns-then-is_empty : goal.returns-then-is_empty
+returns-then-is_empty g c = record {
+  step = record {
+    same = refl;
+    none = λ b stands.
+        sym (c.as_slice.ensures ∙ c.in-Ok.ensures.names b stands ∙ ap (readers b.list) c.members.ensures)
+        ∙ is_nothing c.as_slice.result.now c.is_empty.result c.is_empty.ensures c.if-is_empty.true;
+    front_is = λ b stands. c.front.ensures b stands;
+  };
+}
 
 pub returns : goal.returns
 returns g c =

@@ -24,5 +24,6 @@ returns c found count fs keeps =
       filters = keeps.filters;
       ages = keeps.ages;
       apart = keeps.apart;
+      few = keeps.few;
       blocking = keeps.blocking;
     }

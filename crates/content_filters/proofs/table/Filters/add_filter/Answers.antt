@@ -1,4 +1,4 @@
-use Rattle.std.proofs.Common.{◌≡◌, Bool, true, false, ◌&&◌, ◌||◌, [], ◌∷◌, length, refl, sym, ◌∙◌}
+use Rattle.std.proofs.Common.{◌≡◌, Bool, true, false, ◌&&◌, ◌||◌, [], ◌∷◌, length, refl, sym, ◌∙◌, arith}
 use Rattle.std.proofs.lemmas.List.{map-append}
 use Rattle.news_types.specs.Names.{same}
 use Rattle.content_filters.specs.Kept.{kept_of, oldest_first, is_block}
@@ -11,7 +11,7 @@ plain true c = refl
 plain false c = refl
 
 pub returns : goal.returns
-returns c found count fs keeps none =
+returns c found count fs keeps none room =
     let t = c.args.self.now in
     let name = c.args.filter.name in
     let counted : c.len-place.result ≡ length fs = c.len-place.ensures ∙ filters_counted t found count fs keeps in
@@ -23,5 +23,6 @@ returns c found count fs keeps none =
       filters = c.push_reserved.ensures.items ∙ rw keeps.filters (sym (map-append kept_of (oldest_first fs) (record { name = name; statements = c.args.filter.statements; blocks = false } ∷ [])));
       ages = λ other. c.put_place.ensures other ∙ rw (counted, keeps.ages other) refl;
       apart = (none, keeps.apart);
+      few = omega arith;
       blocking = record { each = λ other. blocks.each other ∙ plain (same name other) (is_block fs other); order = blocks.order };
     }

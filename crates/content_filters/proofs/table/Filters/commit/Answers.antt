@@ -1,8 +1,8 @@
-use Rattle.std.proofs.Common.{◌≡◌, add-zero}
+use Rattle.std.proofs.Common.{◌≡◌, ◌<◌, false, length, add-zero}
 use Rattle.news_types.specs.declared.command.Command.TheVariants.{AddCondition, AddFilter, SetFilter, SetBlock}
 use Rattle.news_types.specs.Conditions.{condition, condition_count}
-use Rattle.news_types.specs.Filters.{filters}
-use Rattle.content_filters.proofs.Changed.{requested, new_allowed, there_allowed, block_allowed}
+use Rattle.news_types.specs.Filters.{filters, has_filter}
+use Rattle.content_filters.proofs.Changed.{requested, new_allowed, room_allowed, there_allowed, block_allowed}
 use Rattle.content_filters.proofs.table.Filters.commit.Goals as goal
 
 pub returns-in-AddCondition : goal.returns-in-AddCondition
@@ -15,7 +15,9 @@ pub returns-in-AddFilter : goal.returns-in-AddFilter
 returns-in-AddFilter c h e caller number command keeps is act =
     let kept = c.in-AddFilter.filter in
     let step : command ≡ AddFilter kept.name kept.statements = rw c.in-AddFilter.is at is.step in
-    requested _ h e caller number command act (rw (step, add-zero) (c.add_filter.ensures (condition h) (condition_count h) (filters h) keeps (new_allowed (condition h) (condition_count h) (filters h) kept.name kept.statements (rw step at is.allowed))))
+    let new : has_filter kept.name (filters h) ≡ false = new_allowed (condition h) (condition_count h) (filters h) kept.name kept.statements (rw step at is.allowed) in
+    let room : length (filters h) < 1024 = room_allowed (condition h) (condition_count h) (filters h) kept.name kept.statements (rw step at is.allowed) in
+    requested _ h e caller number command act (rw (step, add-zero) (c.add_filter.ensures (condition h) (condition_count h) (filters h) keeps new room))
 
 pub returns-in-SetStatements : goal.returns-in-SetStatements
 returns-in-SetStatements c h e caller number command keeps is act =

@@ -1,4 +1,4 @@
-use Rattle.std.proofs.Common.{◌≡◌, [], None, refl, sym, ◌∙◌}
+use Rattle.std.proofs.Common.{◌≡◌, [], None, refl, sym, ◌∙◌, arith}
 use Rattle.std.specs.HashMap.{get}
 use Rattle.std.specs.Ordering.{nat_cmp}
 use Rattle.std.specs.List.Sorted.{IsStrictlySortedBy}
@@ -21,5 +21,6 @@ returns c =
       filters = c.new-3.ensures.items;
       ages = λ name. rw c.new-4.ensures.empty refl;
       apart = tt;
+      few = omega arith;
       blocking = record { each = λ name. rw c.new-5.ensures.items refl; order = rw c.new-5.ensures.items none_in_order };
     }

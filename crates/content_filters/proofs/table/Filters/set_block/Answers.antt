@@ -1,4 +1,5 @@
 use Rattle.std.proofs.Common.{◌≡◌, true, false, not, ◌&&◌, ◌||◌, List, map, refl, sym, ◌∙◌}
+use Rattle.std.proofs.lemmas.List.{length-map}
 use Rattle.std.proofs.lemmas.List.Kept.{IsStrictlySortedBy-filter}
 use Rattle.std.specs.Ordering.{nat_cmp}
 use Rattle.std.specs.Cmp.Lexicographic.{slice_cmp}
@@ -38,6 +39,7 @@ returns-then-on c found count fs keeps there =
       filters = keeps.filters ∙ sym (kept_map g names (changed_kept name block (λ _. refl)) fs);
       ages = λ other. keeps.ages other ∙ sym (age_map g names fs other);
       apart = apart_map g names fs keeps.apart;
+      few = rw (length-map fs g) keeps.few;
       blocking = record {
         each = λ other. c.insert_in_order.ensures.each before.order other ∙ rw (before.each other) (blocked name fs other there);
         order = c.insert_in_order.ensures.order before.order;
@@ -58,6 +60,7 @@ returns-else-on c found count fs keeps there =
       filters = keeps.filters ∙ sym (kept_map g names (changed_kept name block (λ _. refl)) fs);
       ages = λ other. keeps.ages other ∙ sym (age_map g names fs other);
       apart = apart_map g names fs keeps.apart;
+      few = rw (length-map fs g) keeps.few;
       blocking = record {
         each = λ other. rw c.remove_name.ensures (any_removed c.args.self.now.blocks.items name other ∙ rw (before.each other) (unblocked name fs other));
         order = rw c.remove_name.ensures (IsStrictlySortedBy-filter (slice_cmp nat_cmp) (λ it. not (same it name)) c.args.self.now.blocks.items before.order);

@@ -1,5 +1,6 @@
 use Rattle.std.proofs.Common.{◌≡◌, ◌<◌, is_some, vec_len, None, Some, refl, sym, ap, ◌∙◌, arith}
 use Rattle.std.proofs.lemmas.Bool.{false≢true}
+use Rattle.std.proofs.lemmas.List.{length-map}
 use Rattle.news_types.specs.Filters.{Filter, changed}
 use Rattle.content_filters.specs.declared.table.KeptFilter.{KeptFilter}
 use Rattle.content_filters.specs.Kept.{age}
@@ -27,6 +28,7 @@ returns-in-Some c found count fs keeps there =
       filters = c.replace_statements.ensures d within ∙ rw keeps.filters (set_kept name c.args.statements fs place d keeps.apart at);
       ages = λ other. keeps.ages other ∙ sym (age_map g names fs other);
       apart = apart_map g names fs keeps.apart;
+      few = rw (length-map fs g) keeps.few;
       blocking = record { each = λ other. blocks.each other ∙ sym (block_map g names (changed_blocks name restated (λ _. refl)) fs other); order = blocks.order };
     }
 

@@ -9,12 +9,13 @@ returns-clause-change c h stands legal =
     let number = c.args.number in
     let command = c.args.command.now in
     let m = c.args.moment in
-    let parts = c.in_ok-parts.ensures.change h caller number stands legal in
+    let story = c.in_ok-parts.ensures.change h caller number stands legal in
     record {
       legal = legal;
-      parts = parts;
+      parts = story.parts;
+      dues = story.dues;
       rules = c.in_ok-rules.ensures.change h (c.prepare_parts.ensures.stays h stands).rules (allowed h caller number command m legal.2.1);
       stops = c.is_stop.ensures;
       who = refl;
-      last = last_is number _ command _ _ c.in_ok-copy.ensures (c.reply.ensures ∙ parts.reply);
+      last = last_is number _ command _ _ c.in_ok-copy.ensures (c.reply.ensures ∙ story.parts.reply);
     }

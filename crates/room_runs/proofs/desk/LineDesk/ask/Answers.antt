@@ -10,8 +10,8 @@ use Rattle.room_runs.proofs.Calls.{text_counts}
 use Rattle.room_runs.proofs.Desks.{tick_given, question_means, ticked_step, tick_failed, tick_refused}
 use Rattle.room_runs.proofs.desk.LineDesk.ask.Goals as goal
 
-pub told-requires-clause-stands : goal.told-requires-clause-stands
-told-requires-clause-stands g c =
+pub question_told-requires-clause-stands : goal.question_told-requires-clause-stands
+question_told-requires-clause-stands g c =
     let s = c.requires.stands.0 in
     let b = book s c.requires.stands.1.0 in
     (onto c.tick.ensures.0 b, (c.tick.ensures.1 b c.requires.stands.1.1.room_stands).stands)
@@ -20,8 +20,8 @@ pub returns-in-Kept-clause-step : goal.returns-in-Kept-clause-step
 returns-in-Kept-clause-step g c s h stands =
     let r = c.tick.ensures in
     let did = r.1 (book s h) stands.room_stands in
-    ticked_step g.K.Keeper.keeper g.C.Clock.clock s c.args.self.now _ h c.now-now.result (asked.Query c.args.query.now) (λ l. answer_bytes (query_answer no_frames l c.args.query.now)) (question_means s.before h c.args.query.now c.now-now.result c.requires.asks) r.0 c.tick.result c.told.result c.in-Kept.is stands did.stands did.step did.told
-    (record { same_provider = refl; same_room = refl; same = refl; told = c.now-now.ensures.told; gave = c.now-now.ensures.given }) (c.told.ensures (onto r.0 (book s h)) did.stands)
+    ticked_step g.K.Keeper.keeper g.C.Clock.clock s c.args.self.now _ h c.now-now.result (asked.Query c.args.query.now) (λ l. answer_bytes (query_answer no_frames l c.args.query.now)) (question_means s.before h c.args.query.now c.now-now.result c.requires.asks) r.0 c.tick.result c.question_told.result c.in-Kept.is stands did.stands did.step did.told
+    (record { same_provider = refl; same_room = refl; same = refl; told = c.now-now.ensures.told; gave = c.now-now.ensures.given }) (c.question_told.ensures (onto r.0 (book s h)) did.stands)
 
 pub returns-in-Kept-clause-count : goal.returns-in-Kept-clause-count
 returns-in-Kept-clause-count g c =
@@ -30,7 +30,7 @@ returns-in-Kept-clause-count g c =
     let r = c.tick.ensures in
     let did = r.1 b c.requires.stands.1.1.room_stands in
     let given = tick_given (numbers g.K.Keeper.keeper c.args.self.now.room.now c.tick.new.self) b c.now-now.result r.0 c.tick.result c.in-Kept.is did.step in
-    text_counts _ _ _ c.told.result given.0.whole.calm (c.told.ensures (onto r.0 b) did.stands)
+    text_counts _ _ _ c.question_told.result given.0.whole.calm (c.question_told.ensures (onto r.0 b) did.stands)
 
 pub returns-in-Fault-clause-step : goal.returns-in-Fault-clause-step
 returns-in-Fault-clause-step g c s h stands =

@@ -8,4 +8,5 @@ returns c h m caller number command keeps is = record {
   filters = c.commit-2.ensures h (record { moment = m; act = Request caller number command }) caller number command keeps.filters is.filters refl;
   products = c.commit-3.ensures h (record { moment = m; act = Request caller number command }) caller number command keeps.products is.products refl;
   sources = c.commit-4.ensures command _ _ _ _ keeps.sources is.sources;
+  rolls = c.commit-5.ensures h (record { moment = m; act = Request caller number command }) caller number command keeps.rolls is.rolls refl;
 }

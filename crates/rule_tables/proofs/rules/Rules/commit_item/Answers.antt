@@ -9,4 +9,5 @@ returns c h m name come place published keeps is does = record {
   filters = keeps.filters;
   products = keeps.products;
   sources = keeps.sources;
+  rolls = keeps.rolls;
 }

@@ -1,0 +1,5 @@
+pub mod Slots
+pub mod Dues
+pub mod Fills
+pub mod DueSteps
+pub mod Wires

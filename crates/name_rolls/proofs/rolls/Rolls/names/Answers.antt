@@ -1,0 +1,7 @@
+use Rattle.std.proofs.Common.{ap, ◌∙◌}
+use Rattle.name_rolls.specs.Rolls.{names_in}
+use Rattle.name_rolls.proofs.Kept.{each_of}
+use Rattle.name_rolls.proofs.rolls.Rolls.names.Goals as goal
+
+pub returns : goal.returns
+returns c h keeps = c.as_slice.ensures.value ∙ ap names_in c.roll.ensures ∙ each_of c.args.self.now h keeps c.args.of

@@ -1,0 +1,3 @@
+pub mod Rolls
+pub mod Keeps
+pub mod Steps
