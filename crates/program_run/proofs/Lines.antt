@@ -42,7 +42,7 @@ told_same : (told : Told) → room.told_bytes told ≡ told_bytes told
 told_same (archive.Found bytes) = refl
 told_same (archive.Refused bytes) = refl
 
-desk_told_same : (told : DeskTold) → room.desk_told_bytes told ≡ desk_told_bytes told
+pub desk_told_same : (told : DeskTold) → room.desk_told_bytes told ≡ desk_told_bytes told
 desk_told_same (desk.Found bytes) = refl
 desk_told_same (desk.Unknown thing) = refl
 

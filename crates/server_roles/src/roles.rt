@@ -178,8 +178,8 @@ pub fn run_roles<
     requires room { (vec_len server.jobs ≤ vec_capacity server.done) × (server.done.items ≡ []) × (vec_len server.links + vec_len server.jobs ≤ vec_capacity server.links) }
     // the room stands for a list with these more, of which each role saw a beginning
     ensures roles { (more : List Entry) × ((b : Book) → Stands K.keeper (start_of shared) b → Stands K.keeper result.0 (onto more b))
-        × Roles G.door C.clock L.link (base_of shared) (Stands K.keeper (start_of shared)) server.door result.1.door server.clock (front pass) (calls pass) server.jobs.items server.links.items result.1.links.items result.1.ending more }
-    ensures door_faults { CountsFaults (is_door_fault result.1.ending) (G.door.faults server.door) (G.door.faults result.1.door) }
+        × Roles G.door C.clock L.link (base_of shared) (Stands K.keeper (start_of shared)) server.door result.1.door server.clock (front pass) (calls pass) server.jobs.items server.links.items result.1.links.items result.1.ending more
+        × CountsFaults (is_door_fault result.1.ending) (G.door.faults server.door) (G.door.faults result.1.door) }
 {
     let (pass, end) = together(rt, routes, watch, &shared, pass, server);
     (close_at_last(rt, shared, pass), end)

@@ -1,9 +1,12 @@
-use Rattle.std.proofs.Common.{inl, arith}
+use Rattle.std.proofs.Common.{inl, inr, arith}
 use Rattle.newsdesk_server.proofs.Running.{held_full, printed_full, ready_locks, ran_some, has_run}
 use Rattle.newsdesk_server.proofs.serve.run_serve.Goals as goal
 
 pub returns-in-Err-clause-full : goal.returns-in-Err-clause-full
 returns-in-Err-clause-full g c = held_full g.K.Keeper.keeper c.args.setup c.in-Err.held c.in-Err.ensures.held
+
+pub returns-in-Err-clause-served : goal.returns-in-Err-clause-served
+returns-in-Err-clause-served g c = inr (record { held = c.in-Err.ensures.held; line = c.tell.ensures.told })
 
 pub run_roles-room-requires-clause-lock : goal.run_roles-room-requires-clause-lock
 run_roles-room-requires-clause-lock g c = λ κs lives. ready_locks g.K.Keeper.keeper g.C.Clock.clock g.G.Door.door g.L.Link.link c.args.setup c.in-Ok.ready c.in-Ok.ensures.ready
@@ -25,4 +28,4 @@ pub returns-clause-served : goal.returns-clause-served
 returns-clause-served g c =
     let ran = c.run_roles-room.ensures.roles in
     inl (has_run g.K.Keeper.keeper g.C.Clock.clock g.G.Door.door g.L.Link.link c.args.setup c.in-Ok.ready c.in-Ok.ensures.ready c.run_roles-room.result.0 c.run_roles-room.result.1 ran.0 ran.1
-    g.O.Sink.sink c.args.output.now c.tell_summary.new.output c.tell_summary.result ran.2 c.run_roles-room.ensures.door_faults c.tell_summary.ensures)
+    g.O.Sink.sink c.args.output.now c.tell_summary.new.output c.tell_summary.result ran.2 ran.3 c.tell_summary.ensures)
