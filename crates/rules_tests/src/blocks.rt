@@ -1,12 +1,10 @@
 //! The filters that block, in their order, and one filter that is asked alone.
 
-use crate::tables::{Tables, name, story_of, take_all};
+use crate::tables::{Tables, name, story_of, tables_of, take_all};
 use news_types::{Memory, Name};
-use std::process::Abort;
-use std::test::Fail;
 
 // `new` matches where `a` and `b` are true, or where `old` matches.
-const FILTERS: [&str; 5] = [
+const FILTERS: &[&str] = &[
     r#"{"by":"admin","number":1,"do":"add_condition","condition":"a","field":"urgency","op":"lte","values":["2"]}"#,
     r#"{"by":"admin","number":1,"do":"add_condition","condition":"b","field":"headline","op":"like","values":["storm"]}"#,
     r#"{"by":"admin","number":1,"do":"add_condition","condition":"c","field":"headline","op":"like","values":["flood"]}"#,
@@ -14,35 +12,35 @@ const FILTERS: [&str; 5] = [
     r#"{"by":"admin","number":1,"do":"add_filter","filter":"new","statements":[{"conditions":["a","b"]},{"filters":["old"]}]}"#,
 ];
 
-const BLOCKED: [&str; 3] = [
+const BLOCKED: &[&str] = &[
     r#"{"by":"admin","number":1,"do":"set_block","filter":"old","on":true}"#,
     r#"{"by":"admin","number":1,"do":"set_block","filter":"new","on":true}"#,
     r#"{"by":"admin","number":1,"do":"set_block","filter":"old","on":true}"#,
 ];
 
-const UNBLOCKED: [&str; 1] = [
+const UNBLOCKED: &[&str] = &[
     r#"{"by":"admin","number":1,"do":"set_block","filter":"new","on":false}"#,
 ];
 
-/// Sets filters that block and one that no longer does, and looks at the list behind each.
-fn list_blocks(rt: &impl Abort, tables: &mut Tables) -> Result<(), Memory> {
-    let (old, new) = (name(rt, "old"), name(rt, "new"));
-    take_all(rt, tables, &FILTERS)?;
-    assert!(rt; tables.filters.has(&old));
-    assert!(rt; tables.filters.blocks().is_empty());
-    take_all(rt, tables, &BLOCKED)?;
-    assert!(rt; tables.filters.blocks() == [new, old].as_slice());
-    take_all(rt, tables, &UNBLOCKED)?;
-    assert!(rt; tables.filters.blocks() == [old].as_slice());
-    Ok(())
-}
-
+/// Filters that block are set, and one that no longer does; the list is looked at behind each.
 #[test]
-fn blocks_are_listed_in_order(rt: HostRuntime) -> Result<(), Fail> {
-    let mut tables = Tables::new(rt.alloc())?;
-    let listed = list_blocks(&rt, &mut tables);
+fn blocks_are_listed_in_order(rt: HostRuntime) {
+    let mut tables = tables_of(rt.alloc(), FILTERS).expect(&rt, "a request is not done");
+    let (old, new) = (name(&rt, "old"), name(&rt, "new"));
+    let at_first = (tables.filters.has(&old), tables.filters.blocks().is_empty());
+    let blocked = (
+        take_all(&mut tables, BLOCKED),
+        tables.filters.blocks() == [new, old].as_slice(),
+    );
+    let unblocked = (
+        take_all(&mut tables, UNBLOCKED),
+        tables.filters.blocks() == [old].as_slice(),
+    );
     drop(tables);
-    Ok(listed?)
+    assert_eq!(rt;
+        (at_first, blocked, unblocked),
+        ((true, true), (None, true), (None, true))
+    );
 }
 
 /// Whether a filter matches a story of these properties.
@@ -53,19 +51,14 @@ fn matches(tables: &Tables, filter: &Name, object: &str) -> Result<bool, Memory>
     answer
 }
 
-/// Asks one filter of two stories.
-fn ask_filter(rt: &impl Abort, tables: &mut Tables) -> Result<(), Memory> {
-    take_all(rt, tables, &FILTERS)?;
-    let new = name(rt, "new");
-    assert!(rt; matches(tables, &new, r#"{"headline":"Storm","urgency":2}"#)?);
-    assert!(rt; !matches(tables, &new, r#"{"headline":"Calm","urgency":1}"#)?);
-    Ok(())
-}
-
 #[test]
-fn a_filter_is_asked_alone(rt: HostRuntime) -> Result<(), Fail> {
-    let mut tables = Tables::new(rt.alloc())?;
-    let asked = ask_filter(&rt, &mut tables);
+fn a_filter_is_asked_alone(rt: HostRuntime) {
+    let tables = tables_of(rt.alloc(), FILTERS).expect(&rt, "a request is not done");
+    let new = name(&rt, "new");
+    let matched = [
+        matches(&tables, &new, r#"{"headline":"Storm","urgency":2}"#),
+        matches(&tables, &new, r#"{"headline":"Calm","urgency":1}"#),
+    ];
     drop(tables);
-    Ok(asked?)
+    assert_eq!(rt; matched, [Ok(true), Ok(false)]);
 }

@@ -1,13 +1,11 @@
 //! Who is due a publication, where no list of entries has such an item; whether a story is permitted to one subscriber; and
 //! the formats.
 
-use crate::tables::{Tables, name, story_of, take_all};
+use crate::tables::{Tables, name, story_of, tables_of, take_all};
 use news_types::{Format, Kind, Memory, Name};
-use std::process::Abort;
-use std::test::Fail;
 
 // `f1` is an urgency of 1, and `gamma` has a product of its own by it.
-const SUBSCRIBERS: [&str; 6] = [
+const SUBSCRIBERS: &[&str] = &[
     r#"{"by":"admin","number":1,"do":"add_condition","condition":"f1","field":"urgency","op":"eq","values":["1"]}"#,
     r#"{"by":"admin","number":1,"do":"add_filter","filter":"f1","statements":[{"conditions":["f1"]}]}"#,
     r#"{"by":"admin","number":1,"do":"add_product","product":"p1","filter":"f1"}"#,
@@ -32,25 +30,26 @@ fn is_due(
     Ok(due?.as_slice() == wanted)
 }
 
-/// Asks who is due each kind of publication.
-fn ask_dues(rt: &impl Abort, tables: &mut Tables) -> Result<(), Memory> {
-    take_all(rt, tables, &SUBSCRIBERS)?;
-    let (alpha, beta) = (name(rt, "alpha"), name(rt, "beta"));
-    let gamma = name(rt, "gamma");
-    assert!(rt; is_due(tables, Kind::First, &[], &[gamma], &[alpha, beta])?);
-    assert!(rt; is_due(tables, Kind::Correct, &[alpha], &[gamma], &[alpha, gamma])?);
-    assert!(rt; is_due(tables, Kind::Correct, &[gamma], &[beta], &[beta])?);
-    assert!(rt; is_due(tables, Kind::Kill, &[alpha], &[gamma, beta], &[beta, gamma])?);
-    assert!(rt; is_due(tables, Kind::Recall, &[alpha], &[gamma], &[gamma])?);
-    Ok(())
-}
-
 #[test]
-fn targets_say_nothing_of_those_who_had_an_earlier_one(rt: HostRuntime) -> Result<(), Fail> {
-    let mut tables = Tables::new(rt.alloc())?;
-    let asked = ask_dues(&rt, &mut tables);
+fn targets_say_nothing_of_those_who_had_an_earlier_one(rt: HostRuntime) {
+    let tables = tables_of(rt.alloc(), SUBSCRIBERS).expect(&rt, "a request is not done");
+    let (alpha, beta) = (name(&rt, "alpha"), name(&rt, "beta"));
+    let gamma = name(&rt, "gamma");
+    let due = [
+        is_due(&tables, Kind::First, &[], &[gamma], &[alpha, beta]),
+        is_due(&tables, Kind::Correct, &[alpha], &[gamma], &[alpha, gamma]),
+        is_due(&tables, Kind::Correct, &[gamma], &[beta], &[beta]),
+        is_due(
+            &tables,
+            Kind::Kill,
+            &[alpha],
+            &[gamma, beta],
+            &[beta, gamma],
+        ),
+        is_due(&tables, Kind::Recall, &[alpha], &[gamma], &[gamma]),
+    ];
     drop(tables);
-    Ok(asked?)
+    assert_eq!(rt; due, [Ok(true); 5]);
 }
 
 /// Whether a story is permitted to a subscriber.
@@ -72,50 +71,60 @@ const URGENT: &str = r#"{"urgency":1}"#;
 
 const OTHER: &str = r#"{"urgency":3}"#;
 
-/// Asks for each subscriber, with targets and without.
-fn ask_permits(rt: &impl Abort, tables: &mut Tables) -> Result<(), Memory> {
-    take_all(rt, tables, &SUBSCRIBERS)?;
-    let (alpha, beta) = (name(rt, "alpha"), name(rt, "beta"));
-    let gamma = name(rt, "gamma");
-    assert!(rt; is_permitted(tables, OTHER, &[], &alpha)?);
-    assert!(rt; !is_permitted(tables, OTHER, &[beta], &alpha)?);
-    assert!(rt; is_permitted(tables, OTHER, &[beta, alpha], &alpha)?);
-    assert!(rt; is_permitted(tables, URGENT, &[], &gamma)?);
-    assert!(rt; !is_permitted(tables, OTHER, &[], &gamma)?);
-    assert!(rt; !is_permitted(tables, OTHER, &[gamma], &gamma)?);
-    Ok(())
-}
-
+/// Each subscriber is asked for, with targets and without.
 #[test]
-fn one_subscriber_is_asked_for(rt: HostRuntime) -> Result<(), Fail> {
-    let mut tables = Tables::new(rt.alloc())?;
-    let asked = ask_permits(&rt, &mut tables);
+fn one_subscriber_is_asked_for(rt: HostRuntime) {
+    let tables = tables_of(rt.alloc(), SUBSCRIBERS).expect(&rt, "a request is not done");
+    let (alpha, beta) = (name(&rt, "alpha"), name(&rt, "beta"));
+    let gamma = name(&rt, "gamma");
+    let permitted = [
+        is_permitted(&tables, OTHER, &[], &alpha),
+        is_permitted(&tables, OTHER, &[beta], &alpha),
+        is_permitted(&tables, OTHER, &[beta, alpha], &alpha),
+        is_permitted(&tables, URGENT, &[], &gamma),
+        is_permitted(&tables, OTHER, &[], &gamma),
+        is_permitted(&tables, OTHER, &[gamma], &gamma),
+    ];
     drop(tables);
-    Ok(asked?)
+    assert_eq!(rt;
+        permitted,
+        [
+            Ok(true),
+            Ok(false),
+            Ok(true),
+            Ok(true),
+            Ok(false),
+            Ok(false)
+        ]
+    );
 }
 
-const SET: [&str; 3] = [
+const SET: &[&str] = &[
     r#"{"by":"admin","number":1,"do":"set_product","product":"p1","how":"blocking","filter":"f1"}"#,
     r#"{"by":"admin","number":1,"do":"set_subscriber","subscriber":"alpha","products":["p1"],"off":["f1"]}"#,
     r#"{"by":"admin","number":1,"do":"set_subscriber","subscriber":"beta","active":false,"products":["all"]}"#,
 ];
 
-/// Sets a product and two subscribers, and asks for each subscriber's format.
-fn ask_formats(rt: &impl Abort, tables: &mut Tables) -> Result<(), Memory> {
-    take_all(rt, tables, &SUBSCRIBERS)?;
-    take_all(rt, tables, &SET)?;
-    let products = &tables.products;
-    assert!(rt; products.format(&name(rt, "alpha")) == Some(Format::Text7901));
-    assert!(rt; products.format(&name(rt, "beta")) == Some(Format::Ninjs));
-    assert!(rt; products.format(&name(rt, "gamma")) == Some(Format::Ninjs));
-    assert!(rt; products.format(&name(rt, "delta")) == None);
-    Ok(())
-}
-
+/// A product and two subscribers are set, and each subscriber's format is asked for.
 #[test]
-fn a_setting_keeps_the_format(rt: HostRuntime) -> Result<(), Fail> {
-    let mut tables = Tables::new(rt.alloc())?;
-    let asked = ask_formats(&rt, &mut tables);
+fn a_setting_keeps_the_format(rt: HostRuntime) {
+    let mut tables = tables_of(rt.alloc(), SUBSCRIBERS).expect(&rt, "a request is not done");
+    let denied = take_all(&mut tables, SET);
+    let formats = [
+        tables.products.format(&name(&rt, "alpha")),
+        tables.products.format(&name(&rt, "beta")),
+        tables.products.format(&name(&rt, "gamma")),
+        tables.products.format(&name(&rt, "delta")),
+    ];
     drop(tables);
-    Ok(asked?)
+    assert_eq!(rt; denied, None);
+    assert!(rt;
+        formats
+            == [
+                Some(Format::Text7901),
+                Some(Format::Ninjs),
+                Some(Format::Ninjs),
+                None
+            ]
+    );
 }

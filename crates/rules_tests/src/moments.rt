@@ -2,11 +2,10 @@
 
 use news_types::Moment;
 use release_rules::{lagged, moment_of_text, release, retry_delay, text_of_moment};
-use std::test::Fail;
 
 const LAST_MOMENT: Moment = 253_402_300_799;
 
-const DELAYS: [(u32, u64); 9] = [
+const DELAYS: &[(u32, u64)] = &[
     (1, 60),
     (2, 120),
     (3, 240),
@@ -19,18 +18,25 @@ const DELAYS: [(u32, u64); 9] = [
 ];
 
 #[test]
-fn delays(rt: HostRuntime) -> Result<(), Fail> {
-    for (n, seconds) in DELAYS {
-        assert_eq!(rt; delay_of(n), Some(seconds), "behind {n} tries");
+fn delays(rt: HostRuntime) {
+    assert_eq!(rt; first_other_delay(DELAYS), None);
+}
+
+/// How many tries the first row with another delay has.
+fn first_other_delay(rows: &[(u32, u64)]) -> Option<u32> {
+    for (n, seconds) in rows {
+        if delay_of(*n) != Some(*seconds) {
+            return Some(*n);
+        }
     }
-    Ok(())
+    None
 }
 
 fn delay_of(n: u32) -> Option<u64> {
     if n >= 1 { Some(retry_delay(n)) } else { None }
 }
 
-const LAGS: [(Moment, u32, Moment, Moment); 6] = [
+const LAGS: &[(Moment, u32, Moment, Moment)] = &[
     (1000, 0, 0, 1000),
     (1000, 600, 0, 1600),
     (1300, 600, 1600, 1900),
@@ -40,36 +46,38 @@ const LAGS: [(Moment, u32, Moment, Moment); 6] = [
 ];
 
 #[test]
-fn lags(rt: HostRuntime) -> Result<(), Fail> {
-    for (moment, lag, earlier, expected) in LAGS {
-        assert_eq!(rt;
-            lagged(moment, lag, earlier),
-            expected,
-            "{moment} by {lag} from {earlier}"
-        );
-    }
-    Ok(())
+fn lags(rt: HostRuntime) {
+    assert_eq!(rt; first_other_lag(LAGS), None);
 }
 
-const RELEASES: [(Moment, Option<Moment>, Option<Moment>, Moment); 6] = [
-    (1000, None, None, 1000),
-    (1000, None, Some(2000), 2000),
-    (1000, Some(2000), None, 2000),
-    (1000, Some(2000), Some(3000), 3000),
-    (1000, Some(3000), Some(2000), 3000),
-    (5000, Some(2000), Some(3000), 5000),
-];
+/// The first row with another moment.
+fn first_other_lag(rows: &[(Moment, u32, Moment, Moment)]) -> Option<usize> {
+    for place in 0..rows.len() {
+        let (moment, lag, earlier, expected) = rows[place];
+        if lagged(moment, lag, earlier) != expected {
+            return Some(place);
+        }
+    }
+    None
+}
 
 #[test]
-fn releases(rt: HostRuntime) -> Result<(), Fail> {
-    for (moment, schedule, embargo, expected) in RELEASES {
-        assert_eq!(rt; release(moment, schedule, embargo), expected);
-    }
-    Ok(())
+fn releases(rt: HostRuntime) {
+    assert_eq!(rt;
+        [
+            release(1000, None, None),
+            release(1000, None, Some(2000)),
+            release(1000, Some(2000), None),
+            release(1000, Some(2000), Some(3000)),
+            release(1000, Some(3000), Some(2000)),
+            release(5000, Some(2000), Some(3000)),
+        ],
+        [1000, 2000, 2000, 3000, 3000, 5000]
+    );
 }
 
 // The texts of these moments are those of Python's datetime.
-const WRITTEN: [(&str, Moment); 36] = [
+const WRITTEN: &[(&str, Moment)] = &[
     ("1970-01-01T00:00:00Z", 0),
     ("1970-01-01T00:00:01Z", 1),
     ("1970-01-01T00:00:59Z", 59),
@@ -109,11 +117,18 @@ const WRITTEN: [(&str, Moment); 36] = [
 ];
 
 #[test]
-fn written_texts(rt: HostRuntime) -> Result<(), Fail> {
-    for (text, moment) in WRITTEN {
-        assert!(rt; agree(text, moment), "{moment}");
+fn written_texts(rt: HostRuntime) {
+    assert_eq!(rt; first_other(WRITTEN), None);
+}
+
+/// The text of the first row that is not written and read so.
+fn first_other(rows: &[(&'static str, Moment)]) -> Option<&'static str> {
+    for (text, moment) in rows {
+        if !agree(text, *moment) {
+            return Some(text);
+        }
     }
-    Ok(())
+    None
 }
 
 fn agree(text: &str, moment: Moment) -> bool {
@@ -125,14 +140,18 @@ fn is_written(text: &str, moment: Moment) -> bool {
 }
 
 #[test]
-fn later_moments_are_written_as_the_last(rt: HostRuntime) -> Result<(), Fail> {
-    assert!(rt; is_written("9999-12-31T23:59:59Z", LAST_MOMENT + 1));
-    assert!(rt; is_written("9999-12-31T23:59:59Z", Moment::MAX));
-    Ok(())
+fn later_moments_are_written_as_the_last(rt: HostRuntime) {
+    assert_eq!(rt;
+        [
+            is_written("9999-12-31T23:59:59Z", LAST_MOMENT + 1),
+            is_written("9999-12-31T23:59:59Z", Moment::MAX),
+        ],
+        [true; 2]
+    );
 }
 
 // The moments of these texts are those of Python's datetime.
-const READ: [(&str, Moment); 23] = [
+const READ: &[(&str, Moment)] = &[
     ("2024-05-01T10:00:00+02:00", 1_714_550_400),
     ("2024-05-01T10:00:00+0200", 1_714_550_400),
     ("2024-05-01T10:00:00-02:00", 1_714_564_800),
@@ -159,14 +178,21 @@ const READ: [(&str, Moment); 23] = [
 ];
 
 #[test]
-fn texts_that_are_read(rt: HostRuntime) -> Result<(), Fail> {
-    for (text, moment) in READ {
-        assert_eq!(rt; moment_of_text(text), Some(moment), "{text}");
-    }
-    Ok(())
+fn texts_that_are_read(rt: HostRuntime) {
+    assert_eq!(rt; first_misread(READ), None);
 }
 
-const REFUSED: [&str; 56] = [
+/// The text of the first row that is read otherwise.
+fn first_misread(rows: &[(&'static str, Moment)]) -> Option<&'static str> {
+    for (text, moment) in rows {
+        if moment_of_text(text) != Some(*moment) {
+            return Some(text);
+        }
+    }
+    None
+}
+
+const REFUSED: &[&str] = &[
     "",
     "2024-05-01",
     "2024-05-01T10:00:00",
@@ -226,23 +252,36 @@ const REFUSED: [&str; 56] = [
 ];
 
 #[test]
-fn texts_that_are_refused(rt: HostRuntime) -> Result<(), Fail> {
-    for text in REFUSED {
-        assert_eq!(rt; moment_of_text(text), None, "{text}");
+fn texts_that_are_refused(rt: HostRuntime) {
+    assert_eq!(rt; first_read(REFUSED), None);
+}
+
+/// The first text that is read.
+fn first_read(texts: &[&'static str]) -> Option<&'static str> {
+    for text in texts {
+        if moment_of_text(text).is_some() {
+            return Some(text);
+        }
     }
-    Ok(())
+    None
 }
 
 #[test]
-fn random_moments_come_back(rt: HostRuntime) -> Result<(), Fail> {
+fn random_moments_come_back(rt: HostRuntime) {
+    assert_eq!(rt; first_lost(10_000), None);
+}
+
+/// The first of so many random moments whose text is not read as it.
+fn first_lost(count: u32) -> Option<Moment> {
     let mut state: u64 = 20_241_127;
-    for _ in 0..10_000 {
+    for _ in 0..count {
         state = state
             .wrapping_mul(6_364_136_223_846_793_005)
             .wrapping_add(1_442_695_040_888_963_407);
         let moment = (state >> 20) % (LAST_MOMENT + 1);
-        let text = text_of_moment(moment);
-        assert_eq!(rt; moment_of_text(text.as_str()), Some(moment));
+        if moment_of_text(text_of_moment(moment).as_str()) != Some(moment) {
+            return Some(moment);
+        }
     }
-    Ok(())
+    None
 }

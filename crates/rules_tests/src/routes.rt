@@ -1,14 +1,12 @@
 //! What the rules of a scheme ask for.
 
-use crate::tables::{Tables, name, story_of, take_all};
-use desk_lines::{Asked, read_line};
+use crate::tables::{Tables, asked, name, story_of, tables_of};
 use news_types::{Command, Memory, Name, RouteAction, Scheme};
 use routing_rules::{Actions, judge_scheme, route};
 use std::alloc::Global;
 use std::process::Abort;
-use std::test::Fail;
 
-const URGENT: [&str; 2] = [
+const URGENT: &[&str] = &[
     r#"{"by":"admin","number":1,"do":"add_condition","condition":"urgent","field":"urgency","op":"eq","values":["1"]}"#,
     r#"{"by":"admin","number":1,"do":"add_filter","filter":"urgent","statements":[{"conditions":["urgent"]}]}"#,
 ];
@@ -19,14 +17,19 @@ const CHAIN: &str =
 
 /// The rules of a scheme that a request adds.
 fn scheme_of(alloc: Global, line: &str) -> Option<Scheme> {
-    match read_line(alloc, line.as_bytes()) {
-        Ok(
-            Asked::Request {
-                command: Command::AddScheme { rules, .. },
-                ..
-            },
-        ) => Some(rules),
-        _ => None,
+    match asked(alloc, line) {
+        Some((_, command)) => rules_of(command),
+        None => None,
+    }
+}
+
+fn rules_of(command: Command) -> Option<Scheme> {
+    match command {
+        Command::AddScheme { rules, .. } => Some(rules),
+        other => {
+            drop(other);
+            None
+        }
     }
 }
 
@@ -55,30 +58,29 @@ fn asks_for(
     Ok(actions_of(tables, scheme, object)?.as_slice() == wanted)
 }
 
-/// Asks the chain of an urgent story and of another.
-fn ask_chain(rt: &impl Abort, tables: &mut Tables, scheme: &Scheme) -> Result<(), Memory> {
-    take_all(rt, tables, &URGENT)?;
-    let incoming = name(rt, "incoming");
-    let city = fetch(name(rt, "city"), incoming);
-    let sport = fetch(name(rt, "sport"), incoming);
-    let culture = fetch(name(rt, "culture"), incoming);
-    let urgent = [city, sport, RouteAction::Publish, RouteAction::Exit];
-    assert!(rt; asks_for(tables, scheme, r#"{"urgency":1}"#, &urgent)?);
-    assert!(rt; asks_for(tables, scheme, r#"{"urgency":2}"#, &[city, culture])?);
-    Ok(())
+/// Whether the chain asks for what is wanted of an urgent story and of another.
+fn ask_chain(rt: &impl Abort, tables: &Tables, scheme: &Scheme) -> [Result<bool, Memory>; 2] {
+    let (city, incoming) = (name(rt, "city"), name(rt, "incoming"));
+    let (sport, culture) = (name(rt, "sport"), name(rt, "culture"));
+    let urgent = [
+        fetch(city, incoming),
+        fetch(sport, incoming),
+        RouteAction::Publish,
+        RouteAction::Exit,
+    ];
+    let other = [fetch(city, incoming), fetch(culture, incoming)];
+    [
+        asks_for(tables, scheme, r#"{"urgency":1}"#, &urgent),
+        asks_for(tables, scheme, r#"{"urgency":2}"#, &other),
+    ]
 }
 
 #[test]
-fn rules_up_to_the_first_exit(rt: HostRuntime) -> Result<(), Fail> {
-    let mut tables = Tables::new(rt.alloc())?;
-    let asked = match scheme_of(rt.alloc(), CHAIN) {
-        Some(scheme) => {
-            let asked = ask_chain(&rt, &mut tables, &scheme);
-            drop(scheme);
-            asked
-        }
-        None => Err(Memory),
-    };
+fn rules_up_to_the_first_exit(rt: HostRuntime) {
+    let tables = tables_of(rt.alloc(), URGENT).expect(&rt, "a request is not done");
+    let scheme = scheme_of(rt.alloc(), CHAIN).expect(&rt, "a scheme");
+    let asks = ask_chain(&rt, &tables, &scheme);
+    drop(scheme);
     drop(tables);
-    Ok(asked?)
+    assert_eq!(rt; asks, [Ok(true); 2]);
 }

@@ -2,9 +2,8 @@
 
 use item_rules::{Action, next_state};
 use news_types::State;
-use std::test::Fail;
 
-const STATES: [State; 12] = [
+const STATES: &[State] = &[
     State::Draft,
     State::Ingested,
     State::Routed,
@@ -19,7 +18,7 @@ const STATES: [State; 12] = [
     State::Recalled,
 ];
 
-const ACTIONS: [Action; 14] = [
+const ACTIONS: &[Action] = &[
     Action::Route,
     Action::Fetch,
     Action::Edit,
@@ -37,7 +36,7 @@ const ACTIONS: [Action; 14] = [
 ];
 
 /// Each action that may be done, with the state before and behind it.
-const ROWS: [(Action, State, State); 41] = [
+const ROWS: &[(Action, State, State)] = &[
     (Action::Route, State::Ingested, State::Routed),
     (Action::Fetch, State::Ingested, State::Fetched),
     (Action::Edit, State::Draft, State::Draft),
@@ -83,23 +82,34 @@ const ROWS: [(Action, State, State); 41] = [
 
 fn row_of(action: Action, from: State) -> Option<State> {
     for (done, before, behind) in ROWS {
-        if done == action && before == from {
-            return Some(behind);
+        if *done == action && *before == from {
+            return Some(*behind);
+        }
+    }
+    None
+}
+
+/// The first state that an action leads elsewhere from.
+fn first_other(action: Action, states: &[State]) -> Option<State> {
+    for from in states {
+        if next_state(*from, action) != row_of(action, *from) {
+            return Some(*from);
+        }
+    }
+    None
+}
+
+/// The first of these actions that leads elsewhere, with the state that it does so from.
+fn first_wrong(actions: &[Action]) -> Option<(Action, State)> {
+    for action in actions {
+        if let Some(from) = first_other(*action, STATES) {
+            return Some((*action, from));
         }
     }
     None
 }
 
 #[test]
-fn each_state_and_action(rt: HostRuntime) -> Result<(), Fail> {
-    for from in STATES {
-        for action in ACTIONS {
-            assert_eq!(rt;
-                next_state(from, action),
-                row_of(action, from),
-                "{action:?} of {from:?}"
-            );
-        }
-    }
-    Ok(())
+fn each_state_and_action(rt: HostRuntime) {
+    assert_eq!(rt; first_wrong(ACTIONS), None);
 }

@@ -47,32 +47,9 @@ impl Tables {
 
     /// Does what a request asks for: why it is denied, if it is. What is no request is told as want of memory.
     pub(crate) fn answer(&mut self, line: &str) -> Result<Option<Denial>, Memory> {
-        match read_line(self.alloc, line.as_bytes()) {
-            Ok(asked) => self.answer_asked(asked),
-            Err(_) => Err(Memory),
-        }
-    }
-
-    fn answer_asked(&mut self, asked: Asked) -> Result<Option<Denial>, Memory> {
-        match asked {
-            Asked::Request {
-                caller,
-                number: _,
-                command,
-            } => self.request(caller, command),
-            Asked::Query(query) => {
-                drop(query);
-                Err(Memory)
-            }
-            Asked::Receipt { .. } => Err(Memory),
-            Asked::Archive { page: _, query } => {
-                drop(query);
-                Err(Memory)
-            }
-            Asked::Desk(question) => {
-                drop(question);
-                Err(Memory)
-            }
+        match asked(self.alloc, line) {
+            Some((caller, command)) => self.request(caller, command),
+            None => Err(Memory),
         }
     }
 
@@ -139,13 +116,59 @@ impl Tables {
     }
 }
 
-/// Takes requests, one after another. None is denied.
-pub(crate) fn take_all(rt: &impl Abort, tables: &mut Tables, lines: &[&str]) -> Result<(), Memory> {
-    for line in lines {
-        let denial = tables.answer(line)?;
-        assert!(rt; denial == None, "{line}");
+/// Who asks for what by a line, where it is a request.
+pub(crate) fn asked(alloc: Global, line: &str) -> Option<(Name, Command)> {
+    match read_line(alloc, line.as_bytes()) {
+        Ok(asked) => request_of(asked),
+        Err(_) => None,
     }
-    Ok(())
+}
+
+fn request_of(asked: Asked) -> Option<(Name, Command)> {
+    match asked {
+        Asked::Request {
+            caller,
+            number: _,
+            command,
+        } => Some((caller, command)),
+        Asked::Query(query) => {
+            drop(query);
+            None
+        }
+        Asked::Receipt { .. } => None,
+        Asked::Archive { page: _, query } => {
+            drop(query);
+            None
+        }
+        Asked::Desk(question) => {
+            drop(question);
+            None
+        }
+    }
+}
+
+/// Takes requests, one after another: the first that is not done, if there is one.
+pub(crate) fn take_all(tables: &mut Tables, lines: &[&'static str]) -> Option<&'static str> {
+    for line in lines {
+        if !matches!(tables.answer(line), Ok(None)) {
+            return Some(line);
+        }
+    }
+    None
+}
+
+/// Tables that took these requests, or the first that was not done.
+pub(crate) fn tables_of(alloc: Global, lines: &[&'static str]) -> Result<Tables, &'static str> {
+    match Tables::new(alloc) {
+        Ok(mut tables) => match take_all(&mut tables, lines) {
+            None => Ok(tables),
+            Some(line) => {
+                drop(tables);
+                Err(line)
+            }
+        },
+        Err(_) => Err("no memory"),
+    }
 }
 
 /// A story of its properties. What is no story is told as want of memory.

@@ -3,7 +3,7 @@
 ghost use Rattle.entry_segments.specs.Answers.{IsWhole};
 
 use entry_segments::{Packed, Segment, pack, unpack, unpack_payloads};
-use news_types::Memory;
+use news_types::{Bytes, Memory};
 use std::alloc::Global;
 use std::test::Fail;
 
@@ -45,27 +45,45 @@ fn packs_again(rt: HostRuntime) -> Result<(), Fail> {
     Ok(())
 }
 
-/// What is unpacked to payloads has the base, and of each entry its moment, its tag and its fields.
-#[test]
-fn spells_payloads(rt: HostRuntime) -> Result<(), Fail> {
-    match unpack_payloads(rt.alloc(), SECOND) {
-        Ok(read) => {
-            assert_eq!(rt; read.base, 281474976710640);
-            let payloads: [&[u8]; 7] = [
-                b"\0\0\0\0\0\0\x03\xe8\x06\x05admin\0\0\0\0\0\0\0\x01\x0c\x05alpha\0\0\x01\x03all",
-                b"\0\0\0\0\0\0\x03\xe8\x06\x05admin\0\0\0\0\0\0\0\x02\x12\0\x03\0\0\0\x04fire\0\0\0\x04Fire\0\0\0\0\0\0\0\x02en\0\0\0\0\0\0\0\x06Smoke.\0\0\0",
-                b"\0\0\0\0\0\0\x03\xe8\x02\x04beta\0\0\0\x01",
-                b"\0\0\0\0\0\0\x03\xed\x03\x04beta\0\0\0\x01",
-                b"\0\0\0\0\0\0\x04\xb0\x02\x05alpha\0\0\x01\x2c",
-                b"\0\0\0\x3a\xff\xf4\x41\x7f\x01",
-                b"\0\0\0\x3a\xff\xf4\x41\x7f\x04",
-            ];
-            assert_eq!(rt; read.payloads.len(), 7);
-            for (payload, spelled) in read.payloads.iter().zip(payloads) {
-                assert_eq!(rt; payload.as_slice(), spelled);
-            }
-            Ok(())
+/// The payloads of SECOND's entries: of each its moment, its tag and its fields.
+const PAYLOADS: &[&[u8]] = &[
+    b"\0\0\0\0\0\0\x03\xe8\x06\x05admin\0\0\0\0\0\0\0\x01\x0c\x05alpha\0\0\x01\x03all",
+    b"\0\0\0\0\0\0\x03\xe8\x06\x05admin\0\0\0\0\0\0\0\x02\x12\0\x03\0\0\0\x04fire\0\0\0\x04Fire\0\0\0\0\0\0\0\x02en\0\0\0\0\0\0\0\x06Smoke.\0\0\0",
+    b"\0\0\0\0\0\0\x03\xe8\x02\x04beta\0\0\0\x01",
+    b"\0\0\0\0\0\0\x03\xed\x03\x04beta\0\0\0\x01",
+    b"\0\0\0\0\0\0\x04\xb0\x02\x05alpha\0\0\x01\x2c",
+    b"\0\0\0\x3a\xff\xf4\x41\x7f\x01",
+    b"\0\0\0\x3a\xff\xf4\x41\x7f\x04",
+];
+
+/// How many payloads from the first on are spelled so.
+fn spelled(payloads: &[Bytes], wanted: &[&[u8]]) -> usize {
+    let mut place = 0;
+    for payload in payloads {
+        if place >= wanted.len() || payload.as_slice() != wanted[place] {
+            return place;
         }
-        Err(_) => Err(Fail::from("no segment")),
+        place += 1;
     }
+    place
+}
+
+/// What is unpacked to payloads: the base, how many there are, and how many from the first on are spelled so.
+fn told(alloc: Global, bytes: &[u8], wanted: &[&[u8]]) -> Option<(u64, usize, usize)> {
+    match unpack_payloads(alloc, bytes) {
+        Ok(read) => Some((
+            read.base,
+            read.payloads.len(),
+            spelled(read.payloads.as_slice(), wanted),
+        )),
+        Err(_) => None,
+    }
+}
+
+#[test]
+fn spells_payloads(rt: HostRuntime) {
+    assert_eq!(rt;
+        told(rt.alloc(), SECOND, PAYLOADS),
+        Some((281474976710640, 7, 7))
+    );
 }
