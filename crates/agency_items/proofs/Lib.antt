@@ -1,0 +1,4 @@
+mod Cuts
+pub mod Joined
+mod JsonTexts
+mod TextMoments

@@ -1,0 +1,7 @@
+use Rattle.std.proofs.Common.{◌≡◌, drop}
+use Rattle.serde_json.specs.View.{items_view}
+use Rattle.agency_items.specs.Lists.{first_with, is_of_type}
+use Rattle.agency_items.proofs.lists.first_of_type.Given as goal
+
+abbrev pub invariant-loop-entry : goal.invariant-loop-entry
+invariant-loop-entry l = first_with (is_of_type l.wanted) (items_view (drop l.entry-index l.list.items)) ≡ first_with (is_of_type l.wanted) (items_view l.list.items)

@@ -1,0 +1,12 @@
+pub mod Messages
+pub mod Machine
+pub mod State
+pub mod Gives
+pub mod Held
+pub mod Characters
+pub mod Parts
+pub mod Header
+pub mod Headline
+pub mod HeldWords
+pub mod Identity
+pub mod Reading

@@ -1,0 +1,90 @@
+//! The characters of some bytes of a message.
+
+ghost use Rattle.std.specs.Prelude.{◌≡◌, IfOk, map};
+ghost use Rattle.std.specs.Str.{chars};
+ghost use Rattle.agency_wires.specs.Characters.{windows_1252, characters, joins, kept_as, cleaned, decoded};
+
+use std::alloc::{AllocError, Global};
+
+/// The characters of Windows-1252 from 80 to 9F, as the Encoding Standard of the WHATWG has them.
+/// The five bytes that have none there are controls.
+const UPPER_ROW: [char; 32] = [
+    '\u{20AC}', '\u{81}', '\u{201A}', '\u{192}', '\u{201E}', '\u{2026}', '\u{2020}', '\u{2021}',
+    '\u{2C6}', '\u{2030}', '\u{160}', '\u{2039}', '\u{152}', '\u{8D}', '\u{17D}', '\u{8F}',
+    '\u{90}', '\u{2018}', '\u{2019}', '\u{201C}', '\u{201D}', '\u{2022}', '\u{2013}', '\u{2014}',
+    '\u{2DC}', '\u{2122}', '\u{161}', '\u{203A}', '\u{153}', '\u{9D}', '\u{17E}', '\u{178}',
+];
+
+/// The characters of some bytes: UTF-8 where they are UTF-8, else Windows-1252. Each line end is an
+/// LF, and controls but the tab are left out.
+pub fn decoded(alloc: Global, bytes: &[u8]) -> Result<Vec<char>, AllocError>
+    ensures { IfOk result (λ told. told.items ≡ decoded bytes.now) }
+{
+    let told = characters(alloc, bytes)?;
+    cleaned(alloc, told.as_slice())
+}
+
+fn characters(alloc: Global, bytes: &[u8]) -> Result<Vec<char>, AllocError>
+    ensures { IfOk result (λ told. told.items ≡ characters bytes.now) }
+{
+    match str::from_utf8(bytes) {
+        Ok(text) => characters_of(alloc, text),
+        Err(_) => all_windows_1252(alloc, bytes),
+    }
+}
+
+fn all_windows_1252(alloc: Global, bytes: &[u8]) -> Result<Vec<char>, AllocError>
+    ensures { IfOk result (λ told. told.items ≡ map windows_1252 bytes.now) }
+{
+    bytes.iter().map(|byte| windows_1252(*byte)).collect(alloc)
+}
+
+fn characters_of(alloc: Global, text: &str) -> Result<Vec<char>, AllocError>
+    ensures { IfOk result (λ told. told.items ≡ chars text.now) }
+{
+    text.chars().collect(alloc)
+}
+
+fn windows_1252(byte: u8) -> char
+    ensures { result ≡ windows_1252 byte }
+{
+    match byte {
+        0x80..=0x9F => UPPER_ROW[usize::from(byte - 0x80)],
+        _ => char::from(byte),
+    }
+}
+
+/// The characters with LF for each line end, without controls but the tab.
+fn cleaned(alloc: Global, told: &[char]) -> Result<Vec<char>, AllocError>
+    ensures { IfOk result (λ kept. kept.items ≡ cleaned told.now) }
+{
+    let mut kept = Vec::with_capacity(alloc, told.len())?;
+    for (i, letter) in told.iter().enumerate() {
+        if *letter == '\r' && joins(&told[i + 1..]) {
+            continue;
+        }
+        if let Some(letter) = kept_as(*letter) {
+            kept.push(letter)?;
+        }
+    }
+    Ok(kept)
+}
+
+/// Whether these begin with an LF or a CR LF.
+fn joins(rest: &[char]) -> bool
+    ensures { result ≡ joins rest.now }
+{
+    matches!(rest, ['\n', ..] | ['\r', '\n', ..])
+}
+
+/// An LF for a line end, none for a control but the tab, else the character itself.
+fn kept_as(letter: char) -> Option<char>
+    ensures { result ≡ kept_as letter }
+{
+    match letter {
+        '\r' | '\n' => Some('\n'),
+        '\t' => Some('\t'),
+        _ if letter.is_control() => None,
+        _ => Some(letter),
+    }
+}
