@@ -16,7 +16,7 @@ use Rattle.content_filters.specs.declared.table.KeptFilter.{KeptFilter}
 use Rattle.content_filters.specs.declared.table.Filters.{Filters}
 use Rattle.content_filters.specs.declared.verdicts.Verdicts.{Verdicts}
 use Rattle.content_filters.specs.Kept.{condition_of, kept_of, oldest_first, age, AreApart, verdict_at, truth}
-use Rattle.content_filters.specs.Keeps.{Keeps, judged, matches_of, AreVerdicts}
+use Rattle.content_filters.specs.Keeps.{Keeps, judged, matches_of, AreVerdicts, matching_blocks}
 use Rattle.content_filters.proofs.Ages.{at_age_among}
 
 -- ---- tests that agree
@@ -71,10 +71,11 @@ told_of t condition count fs story name keeps =
 -- ---- both
 
 pub are_verdicts : (t : Filters) (condition : Bytes → Option Condition) (count : ℕ) (fs : List Filter) (story : Story) (v : Verdicts) → Keeps t condition count fs
-    → v.conditions.items ≡ map (is_true_of story) (map condition_of t.conditions.items) → v.filters.items ≡ judged t v.conditions.items [] t.filters.items → AreVerdicts v t condition fs story
-are_verdicts t condition count fs story v keeps conditions filters =
+    → v.conditions.items ≡ map (is_true_of story) (map condition_of t.conditions.items) → v.filters.items ≡ judged t v.conditions.items [] t.filters.items → v.blocks.items ≡ matching_blocks t v.filters.items → AreVerdicts v t condition fs story
+are_verdicts t condition count fs story v keeps conditions filters blocks =
     let told : (name : Bytes) → verdict_at t.condition_places v.conditions.items name ≡ truth condition story name = λ name. rw conditions (told_of t condition count fs story name keeps) in
     record {
       conditions = told;
       filters = filters ∙ ap (judged t v.conditions.items []) keeps.filters ∙ judged_older t v.conditions.items (truth condition story) fs [] fs told keeps.ages keeps.apart refl;
+      blocks = blocks;
     }

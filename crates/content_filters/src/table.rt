@@ -8,7 +8,7 @@ ghost use Rattle.news_types.specs.Conditions.{Condition, condition, is_true_of};
 ghost use Rattle.news_types.specs.Filters.{Filter, filters, has_filter, is_filter, older, holds, matches};
 ghost use Rattle.news_types.specs.declared.story.Story.{Story};
 ghost use Rattle.content_filters.specs.Kept.{condition_of, kept_of, filter_named, is_block, verdict_at, AreBlocks};
-ghost use Rattle.content_filters.specs.Keeps.{Keeps, AreVerdicts, judged, stops_at};
+ghost use Rattle.content_filters.specs.Keeps.{Keeps, AreVerdicts, judged, blocks_by, matching_blocks, last_beside};
 ghost use Rattle.content_filters.specs.Reasons.{KeepsFacts};
 ghost use Rattle.feed_reasons.specs.Verdicts.{block};
 
@@ -151,9 +151,11 @@ impl Filters {
     {
         let conditions = self.condition_verdicts(story)?;
         let filters = self.filter_verdicts(conditions.as_slice())?;
+        let blocks = self.matching_blocks(filters.as_slice())?;
         Ok(Verdicts {
             conditions,
             filters,
+            blocks,
         })
     }
 
@@ -166,28 +168,32 @@ impl Filters {
     }
 
     /// The youngest global block that is not among `off` and matches the story for which the verdicts were made. It
-    /// takes no memory.
+    /// takes no memory, and looks at those blocks alone that match.
     pub fn block(&self, verdicts: &Verdicts, off: &[Name]) -> Option<Name>
         ensures { (h : History) (story : Story) → KeepsFacts self.now h → AreVerdicts verdicts.now self.now (condition h) (filters h) story
             → result ≡ block h story off.now }
     {
-        // The filters stand in the order of age, so that the last that stops the story is the youngest.
-        let mut youngest = None;
-        for filter in self.filters.iter() {
-            if self.stops(verdicts, off, &filter.name) {
-                youngest = Some(filter.name);
-            }
-        }
-        youngest
+        last_beside(verdicts.blocks.as_slice(), off)
     }
 
-    /// Whether the filter matches, and is a global block that is not among `off`.
-    fn stops(&self, verdicts: &Verdicts, off: &[Name], name: &Name) -> bool
-        ensures { result ≡ stops_at self.now verdicts.now off.now name.now }
+    /// The global blocks that match by the verdicts on the filters, the oldest first.
+    fn matching_blocks(&self, verdicts: &[bool]) -> Result<Vec<Name>, Memory>
+        ensures { IfOk result (λ names. names.items ≡ matching_blocks self.now verdicts.now) }
     {
-        verdict_at(&self.filter_places, verdicts.filters.as_slice(), name)
-            && name.is_among(self.blocks.as_slice())
-            && !name.is_among(off)
+        let mut names = Vec::new(self.alloc);
+        for filter in self.filters.iter() {
+            if self.blocks_by(verdicts, &filter.name) {
+                names.push(filter.name)?;
+            }
+        }
+        Ok(names)
+    }
+
+    /// Whether the filter matches by these verdicts, and is a global block.
+    fn blocks_by(&self, verdicts: &[bool], name: &Name) -> bool
+        ensures { result ≡ blocks_by self.now verdicts.now name.now }
+    {
+        verdict_at(&self.filter_places, verdicts, name) && name.is_among(self.blocks.as_slice())
     }
 
     /// The truth of every condition, in the order of age.
@@ -238,6 +244,19 @@ impl Filters {
             statement.conditions.as_slice(),
         ) && all_match(&self.filter_places, filters, statement.filters.as_slice())
     }
+}
+
+/// The last of the names that is not among `off`.
+fn last_beside(names: &[Name], off: &[Name]) -> Option<Name>
+    ensures { result ≡ last_beside names.now off.now }
+{
+    let mut last = None;
+    for name in names {
+        if !name.is_among(off) {
+            last = Some(*name);
+        }
+    }
+    last
 }
 
 /// The filter at a place in the order of adding.

@@ -65,11 +65,15 @@ answer_status (told.NoPublication count) = 404
 answer_status _ = 200
 
 -- to a question: a frame as it is, and 404 where there is no such thing, publication or frame
+-- an answer that has a line
+abbrev pub line_response : Answer → Response
+line_response answer = told_as (answer_status answer) (answer_bytes answer)
+
 abbrev pub answer_response : Answer → Response
 answer_response (told.Frame bytes) = record { status = 200; media = Octets; body = bytes }
 answer_response (told.NoFrame length) = bare 404
 answer_response (told.Unknown thing) = denial_response (UnknownThing thing)
-answer_response answer = told_as (answer_status answer) (answer_bytes answer)
+answer_response answer = line_response answer
 
 -- ---- what is refused before the room is asked
 

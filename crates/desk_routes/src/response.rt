@@ -1,6 +1,7 @@
 //! What a turn is answered.
 ghost use Rattle.std.specs.Prelude.{◌≡◌, IfOk};
 ghost use Rattle.std.specs.Option.{option_map};
+ghost use Rattle.desk_answers.specs.Answers.{HasLine};
 ghost use Rattle.desk_routes.specs.Responses as said;
 
 use crate::ask::Refusal;
@@ -159,8 +160,16 @@ pub fn respond_answer(alloc: Global, answer: Answer) -> Result<Response, Memory>
         Answer::NoFrame { .. } => Ok(bare(alloc, 404)),
         Answer::Unknown { thing } => respond_denial(alloc, &Denial::UnknownThing { thing }),
         Answer::May(_) | Answer::Number { .. } => Ok(bare(alloc, 200)),
-        line => Ok(told_as(status_of_answer(&line), answer_text(alloc, &line)?)),
+        line => respond_line(alloc, &line),
     }
+}
+
+/// The response to a question whose answer has a line.
+fn respond_line(alloc: Global, answer: &Answer) -> Result<Response, Memory>
+    requires { HasLine answer.now }
+    ensures { IfOk result (λ response. response ≡ said.line_response answer.now) }
+{
+    Ok(told_as(status_of_answer(answer), answer_text(alloc, answer)?))
 }
 
 /// The response to a request that is refused before anything is asked.

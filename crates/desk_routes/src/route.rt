@@ -1,5 +1,5 @@
 //! The routes of requests.
-ghost use Rattle.std.specs.Prelude.{◌≡◌, IfOk, OnOk};
+ghost use Rattle.std.specs.Prelude.{◌≡◌, [], IfOk, OnOk};
 ghost use Rattle.desk_routes.specs.Routes.{beside, eighteen, if_its_method, if_method, method_of, pattern_of, route_of, routed, with_route};
 
 use http::Method;
@@ -107,29 +107,38 @@ fn put(router: &mut Router<Route>, route: Route) -> Result<(), Memory>
     }
 }
 
+/// Adds the eighteen paths to a router that has none.
+fn put_all(router: &mut Router<Route>) -> Result<(), Memory>
+    requires { router.old ≡ [] }
+    ensures { OnOk result (router.new ≡ eighteen) }
+{
+    put(router, Route::Requests)?;
+    put(router, Route::Item)?;
+    put(router, Route::Queue)?;
+    put(router, Route::FeedAfter)?;
+    put(router, Route::Frame)?;
+    put(router, Route::Receipts)?;
+    put(router, Route::Ingest)?;
+    put(router, Route::Archive)?;
+    put(router, Route::Packages)?;
+    put(router, Route::Contents)?;
+    put(router, Route::ItemsBelow)?;
+    put(router, Route::DeskItemsBelow)?;
+    put(router, Route::Reach)?;
+    put(router, Route::Publication)?;
+    put(router, Route::Things)?;
+    put(router, Route::ThingsAfter)?;
+    put(router, Route::PublicationsAfter)?;
+    put(router, Route::Metrics)
+}
+
 /// The router of the eighteen paths.
 fn router_of_all(alloc: Global) -> Result<Router<Route>, Memory>
     ensures { IfOk result (λ router. router ≡ eighteen) }
 {
     let mut router = Router::new(alloc);
-    put(&mut router, Route::Requests)?;
-    put(&mut router, Route::Item)?;
-    put(&mut router, Route::Queue)?;
-    put(&mut router, Route::FeedAfter)?;
-    put(&mut router, Route::Frame)?;
-    put(&mut router, Route::Receipts)?;
-    put(&mut router, Route::Ingest)?;
-    put(&mut router, Route::Archive)?;
-    put(&mut router, Route::Packages)?;
-    put(&mut router, Route::Contents)?;
-    put(&mut router, Route::ItemsBelow)?;
-    put(&mut router, Route::DeskItemsBelow)?;
-    put(&mut router, Route::Reach)?;
-    put(&mut router, Route::Publication)?;
-    put(&mut router, Route::Things)?;
-    put(&mut router, Route::ThingsAfter)?;
-    put(&mut router, Route::PublicationsAfter)?;
-    put(&mut router, Route::Metrics)?;
+    // (each `?` beside a living router is proved with all that letting it go does: so there is one)
+    put_all(&mut router)?;
     Ok(router)
 }
 

@@ -31,8 +31,12 @@ impl Stories {
         ensures change { (h : History) (caller : Bytes) (number : ℕ) → KeepsStories self.now h → entries ≡ length h → IsLegal (entry_of moment (Request caller number (command.Deschedule item)) ∷ h)
             → IfOk result (λ parts. IsFor parts moment (Request caller number (command.Deschedule item)) h) }
     {
-        let items = self.prepare_set(&Command::Deschedule { item }, moment)?;
         let spans = self.spans(item)?;
+        let command = Command::Deschedule { item };
+        let items = self.prepare_set(&command, moment);
+        // (let go here, once, and not beside the `?`)
+        drop(command);
+        let items = items?;
         Ok(Parts {
             moment,
             reply: Reply {
