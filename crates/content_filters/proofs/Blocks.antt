@@ -71,7 +71,7 @@ last_stops passes off o (k ∷ ks) = by (passes k.name) (λ (u : Option Bytes). 
 
     by : (p : Bool) → ((u : Option Bytes) → else_that (last_beside (names_of passes ks) off) u ≡ last_of (stops_by passes off) u ks)
         → else_that (last_beside (cond p (k.name ∷ names_of passes ks) (names_of passes ks)) off) o
-          ≡ last_of (stops_by passes off) (cond (p && not (is_in k.name off)) (Some k.name) o) ks
+        ≡ last_of (stops_by passes off) (cond (p && not (is_in k.name off)) (Some k.name) o) ks
     by true later = here (is_in k.name off) later
     by false later = later o
 
