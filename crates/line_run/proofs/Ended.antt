@@ -1,20 +1,18 @@
 -- What follows from the end of a run.
-use Rattle.std.proofs.Common.{◌<◌, take, ◌≡◌, ◌⊎◌, inl, inr, ⊎_elim, ◌≤◌, ℕ, List, [], ◌++◌, length, Result, Ok, Err, refl, sym, ◌∙◌, ap, subst, arith, append_assoc}
-use Rattle.std.proofs.lemmas.List.{append-nil, take_all, length-append}
-use Rattle.std.specs.Prelude.{OnOk, OnErr}
-use Rattle.news_io.specs.declared.faults.Failed.{Failed}
-use Rattle.news_io.specs.Faults.{Counts, Rose}
+use Rattle.std.proofs.Common.{◌<◌, ◌≡◌, ◌⊎◌, inl, inr, ⊎_elim, ◌≤◌, ℕ, List, [], ◌++◌, length, Result, Ok, Err, refl, sym, ◌∙◌, ap, subst, arith, append_assoc}
+use Rattle.std.proofs.lemmas.List.{length-append}
+use Rattle.news_io.specs.Faults.{Rose}
 use Rattle.line_run.specs.Life.{Meaning, Life, Kept}
-use Rattle.run_status.specs.Output.{Wrote, AllPassed, Told}
+use Rattle.run_status.specs.Output.{AllPassed, Told}
 use Rattle.line_run.specs.Turns.{AnsweredAll, AnsweredSome, after}
 use Rattle.line_run.specs.Run.{IsEnd, NotByOutput, Ran, Ends}
-use Rattle.line_run.specs.Status.{status_by, CrashLeaves, IsComplete}
+use Rattle.line_run.specs.Status.{status_by, IsRun, CrashLeaves, IsComplete}
 use Rattle.run_status.specs.Status.{number_of, line_of}
 use Rattle.line_run.specs.declared.ending.Ending.{Ending}
 use Rattle.line_run.specs.declared.ending.Ending.TheVariants as end
-use Rattle.run_status.proofs.Tellings.{wrote_none, wrote_is}
 use Rattle.line_run.proofs.Runs.{after_more}
-use Rattle.line_run.proofs.Inputs.{end_passed}
+use Rattle.line_run.proofs.Inputs.{end_passed, ran_nothing}
+use Rattle.line_run.proofs.Steps.{kept_same}
 use Rattle.news_io.specs.Source.{SourceMeaning}
 use Rattle.news_io.specs.Sink.{SinkMeaning}
 
@@ -92,3 +90,21 @@ module _ {O : Type 0} (sink : SinkMeaning O) where
   told_passed f f' m m' o mid o' end.Store goes ends told t = ⊎_elim (λ is. inl is) (λ rose. inr (rose_from _ _ _ ends.1.1 rose)) (line_passed mid o' _ (omega arith) told (goes t))
   told_passed f f' m m' o mid o' end.Full goes ends told t = ⊎_elim (λ is. inl is) (λ rose. inr (rose_from _ _ _ ends.1.1 rose)) (line_passed mid o' _ (omega arith) told (goes t))
   told_passed f f' m m' o mid o' end.Memory goes ends told t = ⊎_elim (λ is. inl is) (λ rose. inr (rose_from _ _ _ ends.1.1 rose)) (line_passed mid o' _ (omega arith) told (goes t))
+
+-- ---- for want of memory nothing was read
+
+module _ {T C S A O X : Type 0} (M : Meaning T X) (L : Life T C A) (fails : A → ℕ) (source : SourceMeaning S) (sink : SinkMeaning O) (decided all : List ℕ → List X) (most : ℕ) where
+  pub unread_run : (i : S) (it : A) (o o' : O) (h : List T) → L.stands it h → Told sink o o' (line_of (status_by end.Memory)) → IsRun M L fails source sink decided all most i i it it o o' h (number_of (status_by end.Memory))
+  unread_run i it o o' h stands told = record {
+    result = Err end.Memory;
+    status_is = refl;
+    mid = o;
+    ran = ran_nothing M L source sink decided all most i it o h stands;
+    ends = (refl, (refl, refl));
+    line = told;
+    passed = told_passed sink (source.faults i) (source.faults i) (fails it) (fails it) o o o' end.Memory (λ t. t) (refl, (refl, refl)) told;
+    done = λ is. absurd (omega (arith, is));
+  }
+
+pub unread_leaves : {T C A : Type 0} (L : Life T C A) (it : A) (h : List T) → L.stands it h → CrashLeaves L it it h
+unread_leaves L it h stands = leaves L it it h h stands ([], refl) (kept_same L it h stands)

@@ -2,9 +2,8 @@
 use Rattle.std.proofs.Common.{◌≡◌, ◌<◌, ◌≤◌, ⊎_elim, ℕ, ◌+◌, List, [], ◌++◌, length, take, drop, Result, Ok, Err, refl, sym, ◌∙◌, ap, subst, arith, append_assoc}
 use Rattle.std.proofs.lemmas.Bool.{cases_lt}
 use Rattle.std.proofs.lemmas.List.{append-nil, nil_from_length, take-append-drop, length-drop, take_at, take-take, length-append, length-take}
-use Rattle.input_lines.specs.Lines.{Line, lines, ended, unless_empty, ended_from, open_from}
-use Rattle.input_lines.proofs.Cuts.{ended-append}
 use Rattle.line_run.specs.Life.{Meaning, Life}
+use Rattle.line_run.specs.Members.{Adds, AddsLast, ComeFirst}
 use Rattle.run_status.specs.Output.{Wrote, AllPassed}
 use Rattle.line_run.specs.Turns.{texts, ByLog, AnsweredAll, AnsweredSome, Causes}
 use Rattle.line_run.specs.Run.{WasRead, IsEnd, NotByOutput, Ran, ReadSoFar, ReadAll}
@@ -31,11 +30,6 @@ two_parts left count piece le = ap (λ (l : List ℕ). l ++ drop left (take coun
 pub one_over : (left count : ℕ) (piece : List ℕ) → left < count → count ≤ left + 1 → count ≤ length piece → length (drop left (take count piece)) ≡ 1
 one_over left count piece lt few within = omega (arith, lt, few, within, length-drop left (take count piece), length-take count piece)
 
--- the lines of the front come first
-pub lines_first : (longest : ℕ) (a b : List ℕ) → lines longest (a ++ b) ≡ ended longest a ++ (ended_from longest (open_from [] a) b ++ unless_empty longest (open_from [] (a ++ b)))
-lines_first longest a b = ap (λ (l : List Line). l ++ unless_empty longest (open_from [] (a ++ b))) (ended-append longest [] a b)
-    ∙ append_assoc (ended longest a) (ended_from longest (open_from [] a) b) (unless_empty longest (open_from [] (a ++ b)))
-
 pub was_read_more : {S : Type 0} (source : SourceMeaning S) (i i' i'' : S) (read some : List ℕ) → WasRead source i i' read (source.ahead i') → (source.tells i' → source.tells i'') → (source.tells i' → source.ahead i' ≡ some ++ source.ahead i'')
     → WasRead source i i'' (read ++ some) (source.ahead i'')
 was_read_more source i i' i'' read some w told bytes = record {
@@ -43,17 +37,6 @@ was_read_more source i i' i'' read some w told bytes = record {
   input = λ t. w.input t ∙ ap (λ (l : List ℕ). read ++ l) (bytes (w.told t)) ∙ sym (append_assoc read some (source.ahead i''));
   rest = λ t. refl;
 }
-
--- the members that a piece adds to those that are decided, and what a function says of them
-abbrev pub Adds : {X : Type 0} → (List ℕ → List X) → (List ℕ → Type 0) → List ℕ → (List X → Type 0) → Type 0
-Adds {X = X} decided agrees some P = (read : List ℕ) → agrees read → (ys : List X) × (decided (read ++ some) ≡ decided read ++ ys) × P ys
-
--- the members of the front come first
-abbrev pub ComeFirst : {X : Type 0} → (List ℕ → List X) → (List ℕ → List X) → Type 0
-ComeFirst {X = X} decided all = (p q : List ℕ) → (ys : List X) × (all (p ++ q) ≡ decided p ++ ys)
-
-pub lines_come_first : (longest : ℕ) → ComeFirst (ended longest) (lines longest)
-lines_come_first longest p q = (ended_from longest (open_from [] p) q ++ unless_empty longest (open_from [] (p ++ q)), lines_first longest p q)
 
 module _ {T C A O X : Type 0} (M : Meaning T X) (L : Life T C A) (sink : SinkMeaning O) where
   -- what was written before passed on first
@@ -231,7 +214,7 @@ module _ {T C S A O X : Type 0} (M : Meaning T X) (L : Life T C A) (source : Sou
 
   -- what the end of the input decides
   pub last_members : (agrees : List ℕ → Type 0) (i i' : S) (old mid new : A) (o o' o'' : O) (h : List T) → ReadAll M L source sink decided most agrees i i' old mid o o' h
-      → ((read : List ℕ) → agrees read → (ys : List X) × (all read ≡ decided read ++ ys) × ((g : List T) → L.stands mid g → AnsweredAll M L sink mid new o' o'' g ys))
+      → AddsLast decided all agrees (λ ys. (g : List T) → L.stands mid g → AnsweredAll M L sink mid new o' o'' g ys)
       → Ran M L source sink decided all most i i' old new o o'' h (Ok tt)
   last_members agrees i i' old mid new o o' o'' h p adds =
       let more : (ys : List X) × (all p.read ≡ decided p.read ++ ys) × ((g : List T) → L.stands mid g → AnsweredAll M L sink mid new o' o'' g ys) = adds p.read p.reader in
@@ -245,7 +228,7 @@ module _ {T C S A O X : Type 0} (M : Meaning T X) (L : Life T C A) (source : Sou
 
   pub last_stops : (agrees : List ℕ → Type 0) (i i' : S) (old mid new : A) (o o' o'' : O) (h : List T) (m m' c c' : ℕ) (why : Ending) → ReadAll M L source sink decided most agrees i i' old mid o o' h
       → Causes m m' c c' (Err why)
-      → ((read : List ℕ) → agrees read → (ys : List X) × (all read ≡ decided read ++ ys) × ((g : List T) → L.stands mid g → AnsweredSome M L sink mid new o' o'' g ys why))
+      → AddsLast decided all agrees (λ ys. (g : List T) → L.stands mid g → AnsweredSome M L sink mid new o' o'' g ys why)
       → Ran M L source sink decided all most i i' old new o o'' h (Err why)
   last_stops agrees i i' old mid new o o' o'' h m m' c c' why p cause adds =
       let more : (ys : List X) × (all p.read ≡ decided p.read ++ ys) × ((g : List T) → L.stands mid g → AnsweredSome M L sink mid new o' o'' g ys why) = adds p.read p.reader in

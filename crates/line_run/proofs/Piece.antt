@@ -7,7 +7,6 @@ use Rattle.input_lines.proofs.Pieces.{take_again}
 use Rattle.line_run.specs.Life.{Meaning, Life}
 use Rattle.line_run.specs.Turns.{ByLog, AnsweredAll, AnsweredSome, Causes}
 use Rattle.line_run.specs.declared.ending.Ending.{Ending}
-use Rattle.line_run.specs.declared.ending.Ending.TheVariants as end
 use Rattle.line_run.proofs.Runs.{none_yet, all_then, some_then, all_some, some_of}
 use Rattle.news_io.specs.Sink.{SinkMeaning}
 

@@ -5,10 +5,9 @@ use Rattle.news_io.proofs.Readings.{gave_then}
 use Rattle.news_io.proofs.Runs.{elapses_weaker, elapses_then}
 use Rattle.news_io.specs.Left.{IsLeft, Between}
 use Rattle.line_run.specs.Life.{Meaning, Life, Took, Kept}
-use Rattle.run_status.specs.Output.{Wrote, AllPassed}
+use Rattle.run_status.specs.Output.{Wrote}
 use Rattle.line_run.specs.Turns.{Turn, after, texts, readings, asked, AllFit, AnsweredAll, ByLog, NextIs, AnsweredSome}
 use Rattle.line_run.specs.declared.ending.Ending.{Ending}
-use Rattle.line_run.specs.declared.ending.Ending.TheVariants as end
 use Rattle.line_run.proofs.Steps.{kept_same, first_passed, took_none, took_is}
 use Rattle.run_status.proofs.Tellings.{wrote_none, wrote_is}
 use Rattle.news_io.specs.Sink.{AreFirst, SinkMeaning}

@@ -3,3 +3,6 @@ pub mod Life
 pub mod Run
 pub mod Status
 pub mod Step
+pub mod Members
+pub mod Along
+pub mod LineShelf

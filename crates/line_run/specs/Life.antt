@@ -1,5 +1,5 @@
 -- Lists of what was kept, the newest first, and what stands for one.
-use Rattle.std.specs.Prelude.{◌≡◌, ℕ, Bool, List}
+use Rattle.std.specs.Prelude.{ℕ, Bool, List}
 use Rattle.news_io.specs.Clock.{Gave}
 use Rattle.news_io.specs.Left.{IsLeft, Between}
 use Rattle.news_io.specs.Moments.{Elapses}

@@ -1,5 +1,5 @@
 -- The status of a run, with its cause.
-use Rattle.std.specs.Prelude.{◌≡◌, ◌⊎◌, ◌<◌, ◌≤◌, ℕ, List, [], ◌∷◌, ◌++◌, length, take, codes, Result, Ok, Err}
+use Rattle.std.specs.Prelude.{◌≡◌, ◌⊎◌, ◌≤◌, ℕ, List, ◌++◌, Result, Ok, Err}
 use Rattle.news_io.specs.Faults.{Rose}
 use Rattle.news_io.specs.Left.{IsLeft, Between}
 use Rattle.line_run.specs.Life.{Meaning, Life}

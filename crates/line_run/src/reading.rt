@@ -1,12 +1,10 @@
-// The input is read in pieces, and its lines are answered as they end.
-ghost use Rattle.std.specs.Prelude.{◌≡◌, ◌≤◌, ◌<◌, ◌+◌, ◌^◌, ◌++◌, [], ℕ, List, length, take, IfOk, OnErr, OnOk};
+// The input is read in pieces, and its members are answered as they are decided.
+ghost use Rattle.std.specs.Prelude.{◌≡◌, ◌≤◌, ◌<◌, ◌+◌, ◌^◌, ◌++◌, [], ℕ, List, length, take, IfOk, OnErr};
 ghost use Rattle.news_io.specs.Faults.{Counts};
-ghost use Rattle.input_lines.specs.Lines.{ended, lines, open_from};
 ghost use Rattle.run_status.specs.Output.{AllPassed};
 ghost use Rattle.line_run.specs.Run.{Ran, ReadsTo, Ends, NotByOutput};
 
-use crate::loops::{answer_piece, answer_some};
-use crate::{Answering, Ending};
+use crate::{Ending, Members};
 use news_io::{Failed, Sink, Source};
 use std::alloc::{AllocError, Global};
 
@@ -27,22 +25,20 @@ pub fn read_piece<S: Source>(input: &mut S, piece: &mut [u8], left: u64) -> Resu
     Ok(count)
 }
 
-/// Answers the lines that end at a line feed, up to the end of the input.
-fn answer_ended<S: Source, O: Sink, A: Answering>(
+/// Answers the members that are decided before the end of the input, and reads up to it.
+fn answer_pieces<S: Source, O: Sink, M: Members>(
     input: &mut S,
     output: &mut O,
-    machine: &mut A,
-    line: &mut Vec<u8>,
+    members: &mut M,
     piece: &mut [u8],
-    longest: u32,
     most: u64,
 ) -> Result<(), Ending>
-    requires stands { (shelf : A.Shelf) × ((h : List A.Entry) × (A.life shelf).stands machine.old h) }
+    requires stands { (shelf : M.Shelf) × ((h : List M.Entry) × (M.life shelf).stands members.old h) }
     requires most { most < 2 ^ 63 }
     requires room { 0 < length piece.old }
-    requires line { line.old.items ≡ [] }
-    ensures reads { (shelf : A.Shelf) (h : List A.Entry) → (A.life shelf).stands machine.old h → ReadsTo (A.meaning shelf) (A.life shelf) S.source O.sink (ended longest) (lines longest) most (λ read. line.new.items ≡ take (longest + 2) (open_from [] read)) input.old input.new machine.old machine.new output.old output.new h result }
-    ensures ends { Ends (S.source.faults input.old) (S.source.faults input.new) (A.faults machine.old) (A.faults machine.new) (O.sink.faults output.old) (O.sink.faults output.new) result }
+    requires begins { M.has_read members.old [] }
+    ensures reads { (shelf : M.Shelf) (h : List M.Entry) → (M.life shelf).stands members.old h → ReadsTo (M.meaning shelf) (M.life shelf) S.source O.sink (M.decided shelf) (M.all shelf) most (M.has_read members.new) input.old input.new members.old members.new output.old output.new h result }
+    ensures ends { Ends (S.source.faults input.old) (S.source.faults input.new) (M.faults members.old) (M.faults members.new) (O.sink.faults output.old) (O.sink.faults output.new) result }
 {
     let mut left = most;
     'pieces: loop {
@@ -53,18 +49,12 @@ fn answer_ended<S: Source, O: Sink, A: Answering>(
             return Ok(());
         }
         if count as u64 > left {
-            if let Err(why) = answer_piece(
-                line,
-                &piece[..left as usize],
-                longest,
-                output,
-                machine,
-            ) {
+            if let Err(why) = members.answer_piece(&piece[..left as usize], output) {
                 return Err(why);
             }
             return Err(Ending::TooLong);
         }
-        if let Err(why) = answer_piece(line, &piece[..count], longest, output, machine) {
+        if let Err(why) = members.answer_piece(&piece[..count], output) {
             return Err(why);
         }
         left -= count as u64;
@@ -78,21 +68,21 @@ pub fn empty_piece(alloc: Global) -> Result<Vec<u8>, AllocError>
     vec![in alloc; 0; PIECE]
 }
 
-/// Answers the lines of the input, in order. Each answer passes on before the next line is looked at, and what was
+/// Answers the members of the input, in order. Each answer passes on before the next member is looked at, and what was
 /// written before passes on before the first.
-pub fn answer_lines<S: Source, O: Sink, A: Answering>(
+pub fn answer_members<S: Source, O: Sink, M: Members>(
     alloc: Global,
     input: &mut S,
     output: &mut O,
-    machine: &mut A,
-    longest: u32,
+    members: &mut M,
     most: u64,
 ) -> Result<(), Ending>
-    requires stands { (shelf : A.Shelf) × ((h : List A.Entry) × (A.life shelf).stands machine.old h) }
+    requires stands { (shelf : M.Shelf) × ((h : List M.Entry) × (M.life shelf).stands members.old h) }
     requires most { most < 2 ^ 63 }
+    requires begins { M.has_read members.old [] }
     ensures passed { O.sink.tells output.old → NotByOutput result → AllPassed O.sink output.new }
-    ensures ran { (shelf : A.Shelf) (h : List A.Entry) → (A.life shelf).stands machine.old h → Ran (A.meaning shelf) (A.life shelf) S.source O.sink (ended longest) (lines longest) most input.old input.new machine.old machine.new output.old output.new h result }
-    ensures ends { Ends (S.source.faults input.old) (S.source.faults input.new) (A.faults machine.old) (A.faults machine.new) (O.sink.faults output.old) (O.sink.faults output.new) result }
+    ensures ran { (shelf : M.Shelf) (h : List M.Entry) → (M.life shelf).stands members.old h → Ran (M.meaning shelf) (M.life shelf) S.source O.sink (M.decided shelf) (M.all shelf) most input.old input.new members.old members.new output.old output.new h result }
+    ensures ends { Ends (S.source.faults input.old) (S.source.faults input.new) (M.faults members.old) (M.faults members.new) (O.sink.faults output.old) (O.sink.faults output.new) result }
 {
     if let Err(_) = output.flush() {
         return Err(Ending::Write);
@@ -100,11 +90,10 @@ pub fn answer_lines<S: Source, O: Sink, A: Answering>(
     let Ok(mut piece) = empty_piece(alloc) else {
         return Err(Ending::Memory);
     };
-    let mut line = Vec::new(alloc);
-    if let Err(why) = answer_ended(input, output, machine, &mut line, &mut piece, longest, most) {
+    if let Err(why) = answer_pieces(input, output, members, &mut piece, most) {
         return Err(why);
     }
-    if let Err(why) = answer_some(&line, longest, output, machine) {
+    if let Err(why) = members.answer_end(output) {
         return Err(why);
     }
     Ok(())
