@@ -14,11 +14,13 @@ use Rattle.text7901.specs.Fields.{incoming}
 use Rattle.text7901.specs.Wire.{End, chunk, end_of, said_of, size_of, judged, member_by, member, wire_from, wire}
 use Rattle.text7901.specs.Machine.{step, Leads}
 use Rattle.text7901.specs.State.{IsOpen, ahead_of}
-use Rattle.text7901.specs.Gives.{Pending, IsPrefixOf}
+use Rattle.text7901.specs.Gives.{Pending}
 use Rattle.text7901.proofs.Parts.{IsWithout}
 use Rattle.text7901.proofs.Runs.{run, after, run_message, run_left}
-use Rattle.text7901.proofs.Undecided.{IsNext, undecided}
+use Rattle.text7901.proofs.Undecided.{undecided}
+use Rattle.line_run.specs.Members.{ComeFirst}
 use Rattle.wire_run.specs.Decided.{has_ended, is_decided, decided_from, decided, DecidedIsMost}
+use Rattle.wire_run.proofs.Fronts.{Open, given_front, given_whole, no_further}
 
 -- ---- a message and more of it
 
@@ -239,14 +241,11 @@ leaves at (b ∷ bytes) = elim (cases_eq b 1) [
 
 -- ---- fronts
 
-abbrev Open : (List ℕ → List Found) → Type 0
-Open f = (x : Found) → IsNext x f → ⊥
-
 -- what follows what is decided
 abbrev pub rest_of : List ℕ → List ℕ → List Found
 rest_of bytes more = let l = leaves 0 bytes in ahead_of l.place l.phase l.held more
 
-pub rest_open : (bytes : List ℕ) → Open (rest_of bytes)
+rest_open : (bytes : List ℕ) → Open (rest_of bytes)
 rest_open bytes =
     let l : Leaves 0 bytes = leaves 0 bytes in
     let r : Pending = record { ready = []; at = l.place; phase = l.phase; held = l.held; ended = false } in
@@ -255,49 +254,21 @@ rest_open bytes =
 rest_is : (bytes more : List ℕ) → decided bytes ++ rest_of bytes more ≡ wire (bytes ++ more)
 rest_is bytes more = (leaves 0 bytes).rest more
 
-heads : {x y : Found} {xs ys : List Found} → x ∷ xs ≡ y ∷ ys → x ≡ y
-heads e = cc
-
-tails : {x y : Found} {xs ys : List Found} → x ∷ xs ≡ y ∷ ys → xs ≡ ys
-tails e = cc
-
--- what comes first in all cases is the front of what comes first and leaves nothing
-front : (xs ys : List Found) (f g : List ℕ → List Found) → Open g → ((more : List ℕ) → All (λ b. b < 256) more → xs ++ f more ≡ ys ++ g more) → (zs : List Found) × (ys ≡ xs ++ zs)
-front [] ys f g none same = (ys, refl)
-front (x ∷ xs) [] f g none same = absurd (none x (λ more bytes. (xs ++ f more, same more bytes)))
-front (x ∷ xs) (y ∷ ys) f g none same =
-    let more : (zs : List Found) × (ys ≡ xs ++ zs) = front xs ys f g none (λ m bytes. tails (same m bytes)) in
-    let one : x ≡ y = heads (same [] (λ k d lt. absurd (omega (arith, lt)))) in
-    (more.0, ap (λ (z : Found). z ∷ ys) (sym one) ∙ ap (λ (l : List Found). x ∷ l) more.1)
-
-both : (xs ys : List Found) (f g : List ℕ → List Found) → Open f → Open g → ((more : List ℕ) → xs ++ f more ≡ ys ++ g more) → xs ≡ ys
-both [] [] f g none_f none_g same = refl
-both [] (y ∷ ys) f g none_f none_g same = absurd (none_f y (λ more bytes. (ys ++ g more, sym (same more))))
-both (x ∷ xs) [] f g none_f none_g same = absurd (none_g x (λ more bytes. (xs ++ f more, same more)))
-both (x ∷ xs) (y ∷ ys) f g none_f none_g same =
-    ap (λ (z : Found). z ∷ xs) (heads (same [])) ∙ ap (λ (l : List Found). y ∷ l) (both xs ys f g none_f none_g (λ m. tails (same m)))
-
 -- what a reader gave is the front of what is decided
 pub given_first : (bytes : List ℕ) (members : List Found) (f : List ℕ → List Found) → ((more : List ℕ) → members ++ f more ≡ wire (bytes ++ more)) → (later : List Found) × (decided bytes ≡ members ++ later)
-given_first bytes members f same = front members (decided bytes) f (rest_of bytes) (rest_open bytes) (λ more small. same more ∙ sym (rest_is bytes more))
+given_first bytes members f same = given_front wire bytes (decided bytes) (rest_of bytes) (rest_is bytes) (rest_open bytes) members f same
 
 -- and all of it, where it gives nothing more
 pub given_all : (bytes : List ℕ) (members : List Found) (f : List ℕ → List Found) → Open f → ((more : List ℕ) → members ++ f more ≡ wire (bytes ++ more)) → decided bytes ≡ members
-given_all bytes members f none same = sym (both members (decided bytes) f (rest_of bytes) none (rest_open bytes) (λ more. same more ∙ sym (rest_is bytes more)))
+given_all bytes members f none same = given_whole wire bytes (decided bytes) (rest_of bytes) (rest_is bytes) (rest_open bytes) members f none same
 
--- ---- the law
+-- ---- the laws
 
-cancel : (xs ys zs : List Found) → xs ++ ys ≡ xs ++ zs → ys ≡ zs
-cancel [] ys zs e = e
-cancel (x ∷ xs) ys zs e = cancel xs ys zs (tails e)
-
-pub decided_first : (p q : List ℕ) → (ys : List Found) × (wire (p ++ q) ≡ decided p ++ ys)
+pub decided_first : ComeFirst decided wire
 decided_first p q = (rest_of p q, sym (rest_is p q))
 
 pub decided_is_most : DecidedIsMost
 decided_is_most bytes = record {
   first = λ more small. (rest_of bytes more, rest_is bytes more);
-  most = λ x further. rest_open bytes x (λ more small.
-      let front : IsPrefixOf (decided bytes ++ x ∷ []) (wire (bytes ++ more)) = further more small in
-      (front.0, cancel (decided bytes) (x ∷ front.0) (rest_of bytes more) (sym (append_assoc (decided bytes) (x ∷ []) front.0) ∙ front.1 ∙ sym (rest_is bytes more))));
+  most = λ x further. no_further wire bytes (decided bytes) (rest_of bytes) (rest_is bytes) (rest_open bytes) x further;
 }

@@ -3,24 +3,14 @@ use Rattle.std.proofs.Common.{◌≡◌, ⊎_elim, ℕ, ◌+◌, ◌<◌, ◌≤
 use Rattle.std.proofs.lemmas.Bool.{cases_lt, lt-ltb}
 use Rattle.std.proofs.lemmas.List.{append-nil, take_all, length-take, length-append}
 use Rattle.news_io.specs.Source.{SourceMeaning}
-use Rattle.news_io.specs.Sink.{SinkMeaning}
 use Rattle.news_types.specs.declared.story.Incoming.{Incoming}
 use Rattle.input_lines.proofs.Pieces.{take_again}
-use Rattle.line_run.specs.Life.{Meaning, Life}
-use Rattle.line_run.specs.Run.{Ran, Ends}
-use Rattle.line_run.specs.Turns.{AnsweredAll, AnsweredSome, Causes}
-use Rattle.line_run.specs.declared.ending.Ending.{Ending}
-use Rattle.line_run.specs.declared.ending.Ending.TheVariants as end
-use Rattle.line_run.proofs.Runs.{none_yet, none_some, some_of}
-use Rattle.run_status.proofs.Tellings.{wrote_none}
-use Rattle.line_run.proofs.Inputs.{was_read_more, some_end}
-use Rattle.news_io.proofs.Pieces.{first_all}
+use Rattle.line_run.proofs.Inputs.{was_read_more}
 use Rattle.ninjs_text.specs.declared.fault.NinjsFault.{NinjsFault}
 use Rattle.ninjs_text.specs.declared.fault.NinjsFault.TheVariants.{NotJson}
 use Rattle.ninjs_text.specs.Reading.{json_of}
 use Rattle.ninjs_text.specs.Item.{ninjs, if_json}
-use Rattle.wire_run.specs.Members.{one_item, no_item}
-use Rattle.wire_run.specs.Reading.{ENOUGH, Part, PartSoFar, IsReadThrough}
+use Rattle.wire_run.specs.Reading.{ENOUGH, Part, PartSoFar}
 
 -- ---- what is kept says what item it is
 
@@ -105,64 +95,3 @@ module _ {S : Type 0} (source : SourceMeaning S) (most : ℕ) where
     omega (arith, p.count),
     p.kept_is,
   )
-
--- ---- the run by what was read
-
-module _ {T C A S O : Type 0} (M : Meaning T (Result Incoming NinjsFault)) (L : Life T C A) (source : SourceMeaning S) (sink : SinkMeaning O) (most : ℕ) where
-  -- without the whole input nothing was answered
-  pub ran_unread : (i i' : S) (it : A) (o : O) (h : List T) (kept : List ℕ) (why : Ending) → L.stands it h → IsReadThrough source most i i' kept (Err why) → Ran M L source sink no_item one_item most i i' it it o o h (Err why)
-  ran_unread i i' it o h kept end.Read stands p = record { read = p.0.read; more = p.0.more; was_read = p.0.was_read; few = p.0.few; did = (p.1, none_yet M L sink it o h stands) }
-  ran_unread i i' it o h kept end.TooLong stands p = record { read = p.0.read; more = p.0.more; was_read = p.0.was_read; few = p.0.few; did = (p.1, none_yet M L sink it o h stands) }
-  ran_unread i i' it o h kept end.Memory stands p = record {
-    read = p.0.read;
-    more = p.0.more;
-    was_read = p.0.was_read;
-    few = p.0.few;
-    did = some_of M L sink it it o o h [] (one_item (p.0.read ++ p.0.more)) end.Memory (none_some M L sink it o o h end.Memory (λ none. none) stands (wrote_none sink o) (λ t. first_all (sink.passed o)));
-  }
-  ran_unread i i' it o h kept end.Write stands p = absurd p
-  ran_unread i i' it o h kept end.Store stands p = absurd p
-  ran_unread i i' it o h kept end.Full stands p = absurd p
-
-  -- with it, its item was
-  pub ran_item : (i i' : S) (old new : A) (o o' : O) (h : List T) (kept : List ℕ) → IsReadThrough source most i i' kept (Ok tt) → AnsweredAll M L sink old new o o' h (one_item kept)
-      → Ran M L source sink no_item one_item most i i' old new o o' h (Ok tt)
-  ran_item i i' old new o o' h kept p d = record {
-    read = p.0.read;
-    more = p.0.more;
-    was_read = p.0.was_read;
-    few = p.0.few;
-    did = (p.1, p.2, subst (λ (l : List (Result Incoming NinjsFault)). AnsweredAll M L sink old new o o' h l) (ap one_item p.3 ∙ ap (λ (r : Result Incoming NinjsFault). r ∷ []) (kept_item p.0.read)) d);
-  }
-
-  pub ran_item_stopped : (i i' : S) (old new : A) (o o' : O) (h : List T) (kept : List ℕ) (m m' c c' : ℕ) (why : Ending) → IsReadThrough source most i i' kept (Ok tt) → Causes m m' c c' (Err why) → AnsweredSome M L sink old new o o' h (one_item kept) why
-      → Ran M L source sink no_item one_item most i i' old new o o' h (Err why)
-  ran_item_stopped i i' old new o o' h kept m m' c c' why p cause d =
-      let whole : p.0.read ++ p.0.more ≡ p.0.read = ap (λ (l : List ℕ). p.0.read ++ l) p.1 ∙ append-nil p.0.read in
-      record {
-        read = p.0.read;
-        more = p.0.more;
-        was_read = p.0.was_read;
-        few = p.0.few;
-        did = some_end M L sink no_item one_item most old new o o' h p.0.read p.0.more m m' c c' why cause
-            (subst (λ (l : List (Result Incoming NinjsFault)). AnsweredSome M L sink old new o o' h l why) (ap one_item p.3 ∙ ap (λ (r : Result Incoming NinjsFault). r ∷ []) (kept_item p.0.read ∙ ap ninjs (sym whole))) d);
-      }
-
--- ---- causes
-
-pub ends_of : (i i' m m' c c' : ℕ) (why : Ending) → i' ≡ i → Causes m m' c c' (Err why) → Ends i i' m m' c c' (Err why)
-ends_of i i' m m' c c' end.Read same cause = absurd cause
-ends_of i i' m m' c c' end.TooLong same cause = absurd cause
-ends_of i i' m m' c c' end.Write same cause = (same, cause)
-ends_of i i' m m' c c' end.Store same cause = (same, cause)
-ends_of i i' m m' c c' end.Full same cause = (same, cause)
-ends_of i i' m m' c c' end.Memory same cause = (same, cause)
-
-module _ {S : Type 0} (source : SourceMeaning S) (most : ℕ) where
-  pub read_ends : (i i' : S) (kept : List ℕ) (m m' c c' : ℕ) (why : Ending) → m' ≡ m → c' ≡ c → IsReadThrough source most i i' kept (Err why) → Ends (source.faults i) (source.faults i') m m' c c' (Err why)
-  read_ends i i' kept m m' c c' end.Read same_m same_c p = (p.2, same_m, same_c)
-  read_ends i i' kept m m' c c' end.TooLong same_m same_c p = (p.2, same_m, same_c)
-  read_ends i i' kept m m' c c' end.Memory same_m same_c p = (p.1, (same_m, same_c))
-  read_ends i i' kept m m' c c' end.Write same_m same_c p = absurd p
-  read_ends i i' kept m m' c c' end.Store same_m same_c p = absurd p
-  read_ends i i' kept m m' c c' end.Full same_m same_c p = absurd p

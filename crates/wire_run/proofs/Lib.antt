@@ -1,4 +1,5 @@
 pub mod Decides
+pub mod Fronts
 pub mod Items
 pub mod Passes
 pub mod Ready

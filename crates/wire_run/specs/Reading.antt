@@ -17,10 +17,6 @@ pub record HasTaken (r : Pending) (read : List ℕ) : Type 0 where
   pub none : r.ready ≡ []
   pub rest : (more : List ℕ) → decided read ++ gives r more ≡ wire (read ++ more)
 
--- the members that further bytes decide, and what a function says of them
-abbrev pub Gains : Pending → List ℕ → (List Found → Type 0) → Type 0
-Gains r some P = (read : List ℕ) → HasTaken r read → (members : List Found) × (decided (read ++ some) ≡ decided read ++ members) × P members
-
 -- ---- an input that is read as a whole
 
 -- a byte more than an item may have: what follows changes nothing

@@ -1,13 +1,10 @@
 // The whole input is one item.
-ghost use Rattle.std.specs.Prelude.{◌≡◌, ◌≤◌, ◌<◌, ◌^◌, ◌++◌, [], ℕ, List, length, take, OnOk};
-ghost use Rattle.run_status.specs.Output.{AllPassed};
-ghost use Rattle.line_run.specs.Run.{Ran, Ends, NotByOutput};
-ghost use Rattle.wire_run.specs.Members.{of_item, one_item, no_item};
+ghost use Rattle.std.specs.Prelude.{◌≡◌, ◌≤◌, ◌<◌, ◌^◌, ◌++◌, [], length, take, OnOk};
 ghost use Rattle.wire_run.specs.Reading.{ENOUGH, IsReadThrough};
 
 use crate::Ingesting;
 use crate::members::answer_bytes;
-use line_run::{Ending, empty_piece, read_piece};
+use line_run::{Ending, Members, read_piece};
 use news_io::{Sink, Source};
 use std::alloc::{AllocError, Global};
 
@@ -15,7 +12,11 @@ use std::alloc::{AllocError, Global};
 const ENOUGH: usize = 4_194_305;
 
 /// Puts these bytes behind those that are kept, as far as they matter.
-fn extend_item(kept: &mut Vec<u8>, bytes: &[u8]) -> Result<(), AllocError>
+///
+/// # Errors
+///
+/// Want of memory.
+pub fn extend_item(kept: &mut Vec<u8>, bytes: &[u8]) -> Result<(), AllocError>
     requires { length kept.old.items ≤ ENOUGH }
     ensures kept { OnOk result (kept.new.items ≡ take ENOUGH (kept.old.items ++ bytes.now)) }
     ensures few { OnOk result (length kept.new.items ≤ ENOUGH) }
@@ -56,33 +57,52 @@ pub fn read_through<S: Source>(
     }
 }
 
-/// Answers the item that the whole input is, once its end was read. What was written before passes on before anything is
-/// read.
-pub fn answer_item<S: Source, O: Sink, A: Ingesting>(
-    alloc: Global,
-    input: &mut S,
-    output: &mut O,
-    desk: &mut A,
-    most: u64,
-) -> Result<(), Ending>
-    requires stands { (shelf : A.Shelf) × ((h : List A.Entry) × (A.life shelf).stands desk.old h) }
-    requires most { most < 2 ^ 63 }
-    ensures passed { O.sink.tells output.old → NotByOutput result → AllPassed O.sink output.new }
-    ensures ran { (shelf : A.Shelf) (h : List A.Entry) → (A.life shelf).stands desk.old h → Ran (of_item (A.meaning shelf)) (A.life shelf) S.source O.sink no_item one_item most input.old input.new desk.old desk.new output.old output.new h result }
-    ensures ends { Ends (S.source.faults input.old) (S.source.faults input.new) (A.faults desk.old) (A.faults desk.new) (O.sink.faults output.old) (O.sink.faults output.new) result }
-{
-    if let Err(_) = output.flush() {
-        return Err(Ending::Write);
+/// The one item that an input is, with what answers it.
+#[derive(Drop)]
+pub(crate) struct ItemMembers<'a, A> {
+    pub(crate) alloc: Global,
+    /// The first bytes of the input, as many as matter.
+    pub(crate) kept: &'a mut Vec<u8>,
+    pub(crate) desk: &'a mut A,
+}
+
+impl<A: Ingesting> Members for ItemMembers<'_, A> {
+    ghost use Rattle.std.specs.Prelude.{refl, Result};
+    ghost use Rattle.news_types.specs.declared.story.Incoming.{Incoming};
+    ghost use Rattle.ninjs_text.specs.declared.fault.NinjsFault.{NinjsFault};
+    ghost use Rattle.line_run.specs.Along.{Hand, along};
+    ghost use Rattle.wire_run.specs.Members.{of_item, one_item, no_item};
+
+    ghost Member = { Result Incoming NinjsFault };
+
+    ghost Entry = { A.Entry };
+
+    ghost Left = { A.Found };
+
+    ghost Shelf = { Hand A.Shelf };
+
+    ghost faults = { λ m. A.faults m.desk.now };
+
+    ghost life = { λ s. along (A.life s.shelf) (λ m. m.desk.now) (λ m. m.desk.ghost_name ≡ s.name) };
+
+    ghost meaning = { λ s. of_item (A.meaning s.shelf) };
+
+    ghost decided = { λ _. no_item };
+
+    ghost all = { λ _. one_item };
+
+    ghost has_read = { λ m read. m.kept.now.items ≡ take ENOUGH read };
+
+    fn answer_piece<O: Sink>(&mut self, piece: &[u8], _output: &mut O) -> Result<(), Ending> {
+        if let Err(_) = extend_item(self.kept, piece) {
+            return Err(Ending::Memory);
+        }
+        Ok(())
     }
-    let Ok(mut piece) = empty_piece(alloc) else {
-        return Err(Ending::Memory);
-    };
-    let mut kept = Vec::new(alloc);
-    if let Err(why) = read_through(input, &mut kept, &mut piece, most) {
-        return Err(why);
+
+    fn answer_end<O: Sink>(&mut self, output: &mut O) -> Result<(), Ending> {
+        answer_bytes(self.alloc, self.kept.as_slice(), output, self.desk)
     }
-    if let Err(why) = answer_bytes(alloc, &kept, output, desk) {
-        return Err(why);
-    }
-    Ok(())
+
+    ghost none = { λ _. refl };
 }

@@ -13,7 +13,8 @@ mod wire;
 mod words;
 
 pub use ingesting::Ingesting;
-pub use item::{answer_item, read_through};
+pub use item::{extend_item, read_through};
 pub use laws::decided_law;
+pub use members::pass_on;
 pub use run::{run_item, run_wire};
-pub use wire::answer_wire;
+pub use words::text_of;

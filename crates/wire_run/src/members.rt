@@ -13,8 +13,12 @@ use ninjs_text::read;
 use std::alloc::Global;
 use text7901::Found;
 
-/// Writes an answer with a line feed, and passes it on.
-fn pass_on<O: Sink>(output: &mut O, answered: Result<Vec<u8>, Stopped>) -> Result<(), Ending>
+/// Writes an answer with a line feed, and passes it on. Without an answer nothing is written.
+///
+/// # Errors
+///
+/// What kept the answer from being made, want of memory, or the output's failure.
+pub fn pass_on<O: Sink>(output: &mut O, answered: Result<Vec<u8>, Stopped>) -> Result<(), Ending>
     ensures { IsPassedOn O.sink output.old output.new answered result }
 {
     let mut text = match answered {

@@ -6,10 +6,14 @@ ghost use Rattle.text7901.specs.Wire.{wire};
 ghost use Rattle.wire_run.specs.Decided.{decided};
 ghost use Rattle.wire_run.specs.Members.{of_found, of_item, one_item, no_item};
 
-use crate::{Ingesting, answer_item, answer_wire};
+use crate::Ingesting;
+use crate::item::ItemMembers;
+use crate::wire::WireMembers;
+use line_run::run_members;
 use news_io::{Sink, Source};
 use run_status::{Status, tell_status};
 use std::alloc::Global;
+use text7901::Reader;
 
 /// Answers the stories and faults of a wire. The status is 0, or tells what ended the run.
 pub fn run_wire<S: Source, O: Sink, A: Ingesting>(
@@ -27,10 +31,15 @@ pub fn run_wire<S: Source, O: Sink, A: Ingesting>(
     ensures complete { S.source.tells input.old → length (S.source.ahead input.old) ≤ most → (Rose (S.source.faults input.old) (S.source.faults input.new) → ⊥) → (Rose (O.sink.faults output.old) (O.sink.faults output.new) → ⊥)
         → (Rose (A.faults desk.old) (A.faults desk.new) → ⊥) → IsComplete result }
 {
-    match answer_wire(alloc, input, output, desk, most) {
-        Ok(()) => Status::Done.number(),
-        Err(why) => tell_status(output, Status::from(why)),
-    }
+    let Ok(mut reader) = Reader::new(alloc) else {
+        return tell_status(output, Status::Memory);
+    };
+    let mut members = WireMembers {
+        alloc,
+        reader: &mut reader,
+        desk,
+    };
+    run_members(alloc, input, output, &mut members, most)
 }
 
 /// Answers the one item that the whole input is. The status is 0, or tells what ended the run.
@@ -49,8 +58,11 @@ pub fn run_item<S: Source, O: Sink, A: Ingesting>(
     ensures complete { S.source.tells input.old → length (S.source.ahead input.old) ≤ most → (Rose (S.source.faults input.old) (S.source.faults input.new) → ⊥) → (Rose (O.sink.faults output.old) (O.sink.faults output.new) → ⊥)
         → (Rose (A.faults desk.old) (A.faults desk.new) → ⊥) → IsComplete result }
 {
-    match answer_item(alloc, input, output, desk, most) {
-        Ok(()) => Status::Done.number(),
-        Err(why) => tell_status(output, Status::from(why)),
-    }
+    let mut kept = Vec::new(alloc);
+    let mut members = ItemMembers {
+        alloc,
+        kept: &mut kept,
+        desk,
+    };
+    run_members(alloc, input, output, &mut members, most)
 }

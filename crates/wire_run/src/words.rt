@@ -14,7 +14,11 @@ use std::alloc::Global;
 use text7901::What;
 
 /// The text that was written, if there was memory for it.
-fn text_of(written: Result<Bytes, Memory>) -> Result<Vec<u8>, Stopped>
+///
+/// # Errors
+///
+/// Want of memory.
+pub fn text_of(written: Result<Bytes, Memory>) -> Result<Vec<u8>, Stopped>
     ensures { (bytes : Bytes) → IfOk written (λ text. text ≡ bytes) → IsText bytes result }
 {
     match written {

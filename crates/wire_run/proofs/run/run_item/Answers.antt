@@ -1,8 +1,36 @@
-use Rattle.line_run.proofs.Ended.{leaves_ran}
+use Rattle.std.proofs.Common.{◌≡◌, [], take, refl, sym, ◌∙◌, subst, rules, arith}
+use Rattle.std.proofs.lemmas.List.{take_all}
+use Rattle.line_run.specs.Status.{IsRun, CrashLeaves}
+use Rattle.line_run.proofs.Along.{run_alone, crash_alone}
+use Rattle.wire_run.specs.Members.{of_item, one_item, no_item}
+use Rattle.wire_run.specs.Reading.{ENOUGH}
 use Rattle.wire_run.proofs.run.run_item.Goals as goal
 
-pub returns-in-Ok-clause-crash : goal.returns-in-Ok-clause-crash
-returns-in-Ok-clause-crash g c = λ shelf h stands. leaves_ran _ _ _ _ _ _ _ _ _ _ _ _ _ h _ stands (c.in-Ok.ensures.ran shelf h stands)
+pub run_members-requires-clause-stands : goal.run_members-requires-clause-stands
+run_members-requires-clause-stands g c =
+    let at = c.requires.stands in
+    (record { shelf = at.0; name = _ }, (at.1.0, (refl, at.1.1)))
 
-pub returns-in-Err-clause-crash : goal.returns-in-Err-clause-crash
-returns-in-Err-clause-crash g c = λ shelf h stands. leaves_ran _ _ _ _ _ _ _ _ _ _ _ _ _ h _ stands (c.in-Err.ensures.ran shelf h stands)
+pub run_members-requires-clause-begins : goal.run_members-requires-clause-begins
+run_members-requires-clause-begins g c = c.new-kept.ensures.items ∙ sym (take_all ENOUGH [] (omega arith))
+
+pub returns-clause-run : goal.returns-clause-run
+returns-clause-run g c = λ shelf h stands.
+    let run = c.run_members.ensures.run (record { shelf = shelf; name = _ }) h (refl, stands) in
+    let crash = c.run_members.ensures.crash (record { shelf = shelf; name = _ }) h (refl, stands) in
+    let same = crash.stands.0 in
+    subst (λ (r : g.row.A.Denot). IsRun (of_item (g.A.Ingesting.meaning shelf)) (g.A.Ingesting.life shelf) g.A.Ingesting.faults g.S.Source.source g.O.Sink.sink no_item one_item c.args.most c.args.input.now c.run_members.new.input c.args.desk.now r c.args.output.now c.run_members.new.output h c.run_members.result)
+    (search rules) (run_alone _ _ _ _ _ _ _ _ _ _ _ _ _ _ _ _ h _ run)
+
+pub returns-clause-crash : goal.returns-clause-crash
+returns-clause-crash g c = λ shelf h stands.
+    let crash = c.run_members.ensures.crash (record { shelf = shelf; name = _ }) h (refl, stands) in
+    let same = crash.stands.0 in
+    subst (λ (r : g.row.A.Denot). CrashLeaves (g.A.Ingesting.life shelf) c.args.desk.now r h) (search rules) (crash_alone _ _ _ _ _ h crash)
+
+pub returns-clause-complete : goal.returns-clause-complete
+returns-clause-complete g c told few reads writes keeper =
+    let at = c.requires.stands in
+    let crash = c.run_members.ensures.crash (record { shelf = at.0; name = _ }) at.1.0 (refl, at.1.1) in
+    let same = crash.stands.0 in
+    c.run_members.ensures.complete told few reads writes (λ rose. keeper (search rules))
