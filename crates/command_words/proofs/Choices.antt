@@ -1,5 +1,5 @@
 -- A word that is no option ends the options.
-use Rattle.std.proofs.Common.{◌≡◌, ◌∙◌, ◌≤◌, ℕ, Bool, true, false, ◌&&◌, List, [], ◌∷◌, get_or, length, codes, Some, refl, sym, ap, arith}
+use Rattle.std.proofs.Common.{◌≡◌, ◌∙◌, ◌≤◌, ℕ, Bool, true, false, List, [], ◌∷◌, get_or, length, codes, Some, refl, ap, arith}
 use Rattle.std.proofs.lemmas.Bool.{and_parts, eqb-true}
 use Rattle.news_types.specs.Names.{Bytes, same}
 use Rattle.command_words.specs.declared.options.Options.{Options}

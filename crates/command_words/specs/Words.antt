@@ -5,11 +5,11 @@ use Rattle.std.specs.List.{list_all, starts_with}
 use Rattle.std.specs.Str.Parse.{digits_value}
 use Rattle.std.specs.Option.{is_some, option_map}
 use Rattle.uuid.specs.Text.{parsed}
-use Rattle.news_types.specs.declared.words.Format.{Format}
-use Rattle.news_types.specs.declared.words.Format.TheVariants.{Ninjs, Text7901}
 use Rattle.news_types.specs.Names.{Bytes, same, is_name}
+use Rattle.command_words.specs.declared.words.IngestFormat.{IngestFormat}
+use Rattle.command_words.specs.declared.words.IngestFormat.TheVariants.{Wire, Item, AgencyWire, AgencyItems}
 use Rattle.command_words.specs.declared.words.Job.{Job}
-use Rattle.command_words.specs.declared.words.Job.TheVariants.{Init, Batch, Ingest, Import, Package, Feed, Queue, Archive, Contents, Audit, Ask, Why, Drain, Receive, Ship, StandIn, Drill, Check, Pack}
+use Rattle.command_words.specs.declared.words.Job.TheVariants.{Init, Batch, Ingest, Import, Package, Feed, Queue, Archive, Contents, Audit, Ask, Digest, Limits, Why, Drain, Receive, Ship, StandIn, Drill, Check, Pack}
 use Rattle.command_words.specs.declared.options.Options.{Options}
 use Rattle.command_words.specs.declared.serving.Serving.{Serving}
 
@@ -24,21 +24,24 @@ short_job verb =
     else (if same verb (codes "queue") then Some Queue
     else (if same verb (codes "check") then Some Check
     else (if same verb (codes "pack") then Some Pack
-    else None)))
+    else (if same verb (codes "limits") then Some Limits
+    else None))))
 
 -- the name that a word is
 abbrev pub name_of : Bytes → Option Bytes
 name_of word = if is_name word then Some word else None
 
 -- the format of what comes in
-abbrev pub format_of : Bytes → Option Format
+abbrev pub format_of : Bytes → Option IngestFormat
 format_of word =
-    if same word (codes "7901") then Some Text7901
-    else (if same word (codes "ninjs") then Some Ninjs
-    else None)
+    if same word (codes "7901") then Some Wire
+    else (if same word (codes "ninjs") then Some Item
+    else (if same word (codes "7901-any") then Some AgencyWire
+    else (if same word (codes "ninjs-any") then Some AgencyItems
+    else None)))
 
 -- to take in what comes in this format from this provider
-abbrev pub ingest_of : Option Format → Option Bytes → Option Job
+abbrev pub ingest_of : Option IngestFormat → Option Bytes → Option Job
 ingest_of (Some format) (Some provider) = Some (Ingest format provider)
 ingest_of format provider = None
 
@@ -72,8 +75,9 @@ long_job verb word =
     else (if same verb (codes "contents") then option_map Contents (number_of word)
     else (if same verb (codes "audit") then option_map Audit (place_of (seed_of word))
     else (if same verb (codes "ask") then option_map Ask (place_of (seed_of word))
+    else (if same verb (codes "digest") then option_map Digest (place_of (seed_of word))
     else (if same verb (codes "stand-in") then option_map StandIn (parsed word)
-    else None))))))
+    else None)))))))
 
 -- to report a subscriber's feed behind its first entries, so many
 abbrev pub feed_of : Option Bytes → Option ℕ → Option Job
@@ -144,7 +148,7 @@ job_by verb words = None
 
 -- `init STORE UUID`, `batch STORE`, `ingest STORE FORMAT PROVIDER`, `import STORE CALLER`, `package STORE CALLER NUMBER`,
 -- `feed STORE SUBSCRIBER AFTER`, `queue STORE`, `archive STORE PAGE QUERY`, `contents STORE PUBLICATION`, `audit STORE AFTER`, `ask STORE ENTRIES`,
--- `why STORE PUBLICATION SUBSCRIBER`, `drain STORE` with pairs of a NAME and an ADDRESS, `receive STORE NAME`, `ship STORE NAME ADDRESS`,
+-- `digest STORE ENTRIES`, `limits STORE`, `why STORE PUBLICATION SUBSCRIBER`, `drain STORE` with pairs of a NAME and an ADDRESS, `receive STORE NAME`, `ship STORE NAME ADDRESS`,
 -- `stand-in STORE UUID`, `check STORE`, `pack STORE` and `drill N SEED`; a store and an address are any words but an option
 abbrev pub job_of : List Bytes → Option Job
 job_of (verb ∷ first ∷ words) =

@@ -13,7 +13,7 @@ const BATCH: &str =
 ";
 
 const INGEST: &str =
-    "newsdesk ingest STORE FORMAT PROVIDER   take in standard input as PROVIDER sent it: FORMAT 7901 is a wire, ninjs one item
+    "newsdesk ingest STORE FORMAT PROVIDER   take in standard input as PROVIDER sent it: FORMAT 7901-any is a wire, ninjs-any an item or a list of items, as agencies send them; 7901 and ninjs read by the letter
 ";
 
 const IMPORT: &str =
@@ -50,6 +50,14 @@ const ASK: &str =
 
 const WHY: &str =
     "newsdesk why STORE PUBLICATION SUBSCRIBER    write why a publication is due to a subscriber or not, and what became of it
+";
+
+const DIGEST: &str =
+    "newsdesk digest STORE ENTRIES           write the SHA-256 of the first ENTRIES entries of the list, by which backups and standbys are compared
+";
+
+const LIMITS: &str =
+    "newsdesk limits STORE                   write each limit of the store, and how much of it is used
 ";
 
 const DRAIN: &str =
@@ -89,7 +97,7 @@ newsdesk COMMAND --help                 say the line of one command
 newsdesk --version                      say the version
 
 Options stand directly behind COMMAND: with --wait it waits for a STORE that another program has, with --beside check, archive,
-contents, audit, ask, why and ship read one that is being served, `ship --every SECONDS STORE ..` ships what is new each so many
+contents, audit, ask, why, digest, limits and ship read one that is being served, `ship --every SECONDS STORE ..` ships what is new each so many
 seconds until it is ended, and `serve --key FILE STORE ..` answers only who sends the first line of FILE as the header X-Key.
 
 A line of `batch` is a request, as
@@ -105,10 +113,10 @@ to the output too, as {\"status\":7} with the place of the damage.
 ";
 
 /// How the program is used, for `--help`: texts, to be written one behind the other. Each command has a line.
-pub fn help_texts() -> [&'static str; 22] {
+pub fn help_texts() -> [&'static str; 24] {
     [
         HEAD, INIT, BATCH, INGEST, IMPORT, PACKAGE, FEED, QUEUE, ARCHIVE, CONTENTS, AUDIT, ASK,
-        WHY, DRAIN, SERVE, RECEIVE, SHIP, STAND_IN, CHECK, PACK, DRILL, TAIL,
+        WHY, DIGEST, LIMITS, DRAIN, SERVE, RECEIVE, SHIP, STAND_IN, CHECK, PACK, DRILL, TAIL,
     ]
 }
 
@@ -127,6 +135,8 @@ pub fn command_help(command: &str) -> Option<&'static str> {
         "audit" => Some(AUDIT),
         "ask" => Some(ASK),
         "why" => Some(WHY),
+        "digest" => Some(DIGEST),
+        "limits" => Some(LIMITS),
         "drain" => Some(DRAIN),
         "serve" => Some(SERVE),
         "receive" => Some(RECEIVE),

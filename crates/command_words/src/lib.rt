@@ -11,4 +11,4 @@ pub use help::{command_help, help_texts, version_text};
 pub use options::{Options, read_options};
 pub use serving::{Serving, read_serving};
 pub use word::Word;
-pub use words::{Job, read_words};
+pub use words::{IngestFormat, Job, read_words};

@@ -4,12 +4,12 @@ ghost use Rattle.std.specs.Char.{is_ascii_digit};
 ghost use Rattle.std.specs.List.{list_all};
 ghost use Rattle.std.specs.Option.{option_map};
 ghost use Rattle.uuid.specs.Text.{parsed};
-ghost use Rattle.command_words.specs.declared.words.Job.TheVariants.{Ask, Audit, Contents, Import, Init, Receive, StandIn};
+ghost use Rattle.command_words.specs.declared.words.Job.TheVariants.{Ask, Audit, Contents, Digest, Import, Init, Receive, StandIn};
 ghost use Rattle.command_words.specs.Words.{archive_of, drill_of, feed_of, format_of, ingest_of, job_of, name_of, number_of, package_of, place_of, seed_of, ship_of, why_of};
 ghost use Rattle.command_words.specs.Words as spec;
 
 use crate::word::Word;
-use news_types::{Format, Name, Text};
+use news_types::{Name, Text};
 use uuid::Uuid;
 
 /// The most stories of a drill.
@@ -17,6 +17,19 @@ const MOST_STORIES: u32 = 100_000;
 
 /// What the numbers of entries are below: 2^48.
 const PLACES: u64 = 281_474_976_710_656;
+
+/// The format of what a provider sends.
+#[derive(Clone, Copy, Debug, PartialEq, Eq)]
+pub enum IngestFormat {
+    /// `7901`: a wire of IPTC 7901.
+    Wire,
+    /// `ninjs`: one item of ninjs 1.
+    Item,
+    /// `7901-any`: a wire as agencies send them.
+    AgencyWire,
+    /// `ninjs-any`: an item or a list of items as agencies send them.
+    AgencyItems,
+}
 
 /// What a command line asks for.
 #[derive(Drop)]
@@ -26,25 +39,44 @@ pub enum Job<'a> {
     /// To answer the lines of the input.
     Batch,
     /// To take in what the input has, in this format, from this provider.
-    Ingest { format: Format, provider: Name },
+    Ingest {
+        format: IngestFormat,
+        provider: Name,
+    },
     /// To add the subscribers of the table that the input is, as requests of this caller.
     Import(Name),
     /// To publish the package that the input is, as this caller's request of this number.
-    Package { caller: Name, number: u64 },
+    Package {
+        caller: Name,
+        number: u64,
+    },
     /// To release what waits, and report this subscriber's feed behind its first entries, so many.
-    Feed { subscriber: Name, after: u32 },
+    Feed {
+        subscriber: Name,
+        after: u32,
+    },
     /// To release what waits, and report all feeds.
     Queue,
     /// To tell which publications the query finds, behind so many pages.
-    Archive { page: u32, query: Word<'a> },
+    Archive {
+        page: u32,
+        query: Word<'a>,
+    },
     /// To tell what the publication of this number holds.
     Contents(u32),
     /// To write a line for each entry of the list behind its first ones, so many.
     Audit(u64),
     /// To answer the questions of the input at the first entries of the list, so many.
     Ask(u64),
+    /// To tell the digest of the first entries of the list, so many.
+    Digest(u64),
+    /// To tell each limit of the store, and how much of it is used.
+    Limits,
     /// To tell why the publication of this number is due to this subscriber or not, and what became of it.
-    Why { publication: u32, subscriber: Name },
+    Why {
+        publication: u32,
+        subscriber: Name,
+    },
     /// To push what is due over the links to receivers.
     Drain,
     /// To take the frames of the input as the receiver of this name.
@@ -54,7 +86,10 @@ pub enum Job<'a> {
     /// To take the records of the input as the standby of this store.
     StandIn(Uuid),
     /// To drill a newsroom in memory with so many stories, drawn from this seed.
-    Drill { stories: u32, seed: u64 },
+    Drill {
+        stories: u32,
+        seed: u64,
+    },
     /// To open the log, and tell what it holds.
     Check,
     /// To let the side take what only the log has, and empty the log.
@@ -167,6 +202,7 @@ fn short_job<'a>(verb: &str) -> Option<Job<'a>>
         "queue" => Some(Job::Queue),
         "check" => Some(Job::Check),
         "pack" => Some(Job::Pack),
+        "limits" => Some(Job::Limits),
         _ => None,
     }
 }
@@ -192,6 +228,9 @@ fn long_job<'a>(verb: &str, word: &str) -> Option<Job<'a>>
     }
     if verb == "ask" {
         return ask_job(word);
+    }
+    if verb == "digest" {
+        return digest_job(word);
     }
     if verb == "stand-in" {
         return stand_in_job(word);
@@ -252,6 +291,13 @@ fn ask_job<'a>(entries: &str) -> Option<Job<'a>>
     ensures { result ≡ option_map Ask (place_of (seed_of entries.now)) }
 {
     Some(Job::Ask(read_place(entries)?))
+}
+
+/// To tell the digest of the first entries, so many, if the word is a number of entries.
+fn digest_job<'a>(entries: &str) -> Option<Job<'a>>
+    ensures { result ≡ option_map Digest (place_of (seed_of entries.now)) }
+{
+    Some(Job::Digest(read_place(entries)?))
 }
 
 /// What this word, a store and two words more ask for.
@@ -331,12 +377,14 @@ fn ship_job<'a>(name: &str, address: &str) -> Option<Job<'a>>
 }
 
 /// The format of what comes in, if the word is one.
-fn read_format(word: &str) -> Option<Format>
+fn read_format(word: &str) -> Option<IngestFormat>
     ensures { result ≡ format_of word.now }
 {
     match word {
-        "7901" => Some(Format::Text7901),
-        "ninjs" => Some(Format::Ninjs),
+        "7901" => Some(IngestFormat::Wire),
+        "ninjs" => Some(IngestFormat::Item),
+        "7901-any" => Some(IngestFormat::AgencyWire),
+        "ninjs-any" => Some(IngestFormat::AgencyItems),
         _ => None,
     }
 }

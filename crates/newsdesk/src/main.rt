@@ -9,13 +9,17 @@ ghost use Rattle.spoken_devices.specs.Meanings.{spoken_disk};
 
 mod descriptors;
 mod key;
+mod reasons;
 mod shipping;
 mod store;
+mod usage;
 
 use crate::descriptors::hold_descriptors;
 use crate::key::read_key;
+use crate::reasons::tell_reason;
 use crate::shipping::ship_each;
 use crate::store::{Keeping, keeping_of, open_files};
+use crate::usage::{has_addresses, tell_usage};
 use command_words::{
     Options, Serving, command_help, help_texts, read_options, read_serving, read_words,
     version_text,
@@ -53,23 +57,25 @@ fn main(rt: HostRuntime) -> ExitCode {
     let Ok(mut output) = StdSink::new(alloc, io::writer(&rt)) else {
         return ExitCode::from(Status::Memory.number());
     };
-    let Some((options, key)) = take_options(&mut words) else {
+    let taken = take_options(&mut words);
+    let Some((options, key)) = taken.filter(|_| has_addresses(&words)) else {
+        tell_usage(&rt, &words);
         return ExitCode::from(tell_status(&mut output, Status::Usage));
     };
-    let Some(serving) = read_serving(&words) else {
-        let status = match (options.every, link_to(&rt, alloc, linked_by(&words))) {
+    let status = match read_serving(&words) {
+        Some(serving) => match server_of(&rt, alloc, &words, options, key, serving) {
+            Ok(setup) => run_serve(&rt, alloc, setup, &mut output).status.number(),
+            Err(status) => tell_status(&mut output, status),
+        },
+        None => match (options.every, link_to(&rt, alloc, linked_by(&words))) {
             (_, Err(Memory)) => tell_status(&mut output, Status::Memory),
             (None, Ok(link)) => start(&rt, alloc, &words, options, &mut output, link, shows),
             (Some(seconds), Ok(link)) => {
                 ship_each(&rt, alloc, &words, options, seconds, &mut output, link)
             }
-        };
-        return ExitCode::from(status);
+        },
     };
-    let status = match server_of(&rt, alloc, &words, options, key, serving) {
-        Ok(setup) => run_serve(&rt, alloc, setup, &mut output).status.number(),
-        Err(status) => tell_status(&mut output, status),
-    };
+    tell_reason(&rt, &words, options, status);
     drop(held);
     ExitCode::from(status)
 }

@@ -34,6 +34,8 @@ pub fn keeping_of(job: Job<'_>) -> Keeping {
         | Job::Contents(_)
         | Job::Audit(_)
         | Job::Ask(_)
+        | Job::Digest(_)
+        | Job::Limits
         | Job::Why { .. }
         | Job::Ship(_) => Keeping::Reads,
         Job::Pack => Keeping::Packs,

@@ -19,6 +19,7 @@ use Rattle.room_reports.specs.Written.{IsWrittenOut}
 use Rattle.store_files.specs.Store.{Opens}
 use Rattle.list_runs.specs.Life.{PastAnswered}
 use Rattle.list_runs.specs.Lists.{first_entries}
+use Rattle.list_marks.specs.Digest.{IsDigest, digest_line}
 use Rattle.newsdesk_cli.specs.Command.{IsServed, IsAskServed}
 use Rattle.newsdesk_cli.specs.Lists.{AsksAt, IsAsk}
 use Rattle.newsdesk_cli.specs.Opened.{IsLook}
@@ -59,6 +60,18 @@ module _ {K S O : Type 0} (keeper : KeeperMeaning K) (source : SourceMeaning S) 
   }
   asked_served_at h g long before now (inr asked) =
       let s = past_served (first_entries entries g) before now asked.answered in
+      record { own = λ is. absurd (s.own is); whole = s.whole; failed = s.failed }
+
+module _ {O : Type 0} (sink : SinkMeaning O) (entries : ℕ) (o o' : O) (status : ℕ) where
+  -- so it is with a digest
+  pub digest_served_at : (h g : History) → length g ≡ length h → (before now : ℕ) → IsDigest sink entries g o o' status → IsAskServed before now entries h status
+  digest_served_at h g long before now (inl fewer) = record {
+    own = λ is. omega (arith, long, fewer.fewer);
+    whole = λ is. absurd (omega (arith, is, fewer.stopped.status_is));
+    failed = λ is. absurd (omega (arith, is, fewer.stopped.status_is));
+  }
+  digest_served_at h g long before now (inr told) =
+      let s = written_served sink (digest_line entries g) o o' before now status told.told in
       record { own = λ is. absurd (s.own is); whole = s.whole; failed = s.failed }
 
 -- what asks has looked at its store, if that was opened

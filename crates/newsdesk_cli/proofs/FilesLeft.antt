@@ -4,8 +4,6 @@ use Rattle.std.specs.Prelude.{Result, Ok, Err}
 use mathlib.Core.Bool.{false≢true}
 use Rattle.news_types.specs.Books.{Book, followed_by, onto}
 use Rattle.news_types.specs.Names.{Bytes}
-use Rattle.news_types.specs.declared.words.Format.{Format}
-use Rattle.news_types.specs.declared.words.Format.TheVariants.{Ninjs, Text7901}
 use Rattle.news_types.specs.History.{History}
 use Rattle.news_types.specs.Doubt.{payloads}
 use Rattle.news_types.specs.declared.entry.Entry.{Entry}
@@ -40,12 +38,11 @@ use Rattle.store_files.specs.Files.{Files, OpenTo, OpenAlike, MayLeave, MayBe, L
 use Rattle.store_files.specs.Store.{IsOpenRoom}
 use Rattle.store_files.proofs.Holding.{calls_shut, left_now}
 use Rattle.room_runs.specs.Members.{MembersAnswered}
-use Rattle.room_runs.specs.Wires.{IngestAnswered, of_incoming, wire_hand}
-use Rattle.text7901.specs.Wire.{wire}
-use Rattle.wire_run.specs.Decided.{decided}
-use Rattle.wire_run.specs.Members.{of_found, of_item, one_item, no_item}
+use Rattle.room_runs.specs.Wires.{wire_hand}
 use Rattle.room_runs.specs.Desk.{Hand, Shelf, book, moment_of}
+use Rattle.command_words.specs.declared.words.IngestFormat.{IngestFormat}
 use Rattle.newsdesk_cli.specs.FilesLeft.{NoneInDoubt, FilesLeft}
+use Rattle.newsdesk_cli.specs.Ingests.{IngestAnswered, answer_of, decided, all}
 use Rattle.room_runs.specs.Life.{life}
 use Rattle.room_runs.specs.Lines.{LONGEST_INPUT}
 
@@ -341,7 +338,6 @@ module _ {D C S O A X : Type 0} (disk : DiskMeaning D) (clock : ClockMeaning C) 
 
 module _ {D C S O : Type 0} (disk : DiskMeaning D) (clock : ClockMeaning C) (source : SourceMeaning S) (sink : SinkMeaning O)
     (log side : D) (r r' : Room (Pair D)) (c c' : C) (i i' : S) (o o' : O) (status : ℕ) (opened : IsOpenRoom disk log side r) (tells : disk.tells log) (tells' : disk.tells side) (provider : Bytes) where
-  pub ingest_left : (format : Format) → IngestAnswered (pair_of disk) clock source sink provider format r r' c c' i i' o o' (record { store = opened.store; told = true; list = opened.history }) 65 status
+  pub ingest_left : (format : IngestFormat) → IngestAnswered (pair_of disk) clock source sink provider format r r' c c' i i' o o' (record { store = opened.store; told = true; list = opened.history }) 65 status
       → FilesLeft disk log side opened.store r r' opened.history status
-  ingest_left Text7901 a = files_left disk clock source sink wire_hand (λ start. of_found (of_incoming start provider)) decided wire log side r r' c c' i i' o o' status opened tells tells' a
-  ingest_left Ninjs a = files_left disk clock source sink wire_hand (λ start. of_item (of_incoming start provider)) no_item one_item log side r r' c c' i i' o o' status opened tells tells' a
+  ingest_left format a = files_left disk clock source sink wire_hand (answer_of format provider) (decided format) (all format) log side r r' c c' i i' o o' status opened tells tells' a

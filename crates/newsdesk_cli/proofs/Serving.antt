@@ -3,7 +3,6 @@ use Rattle.std.proofs.Common.{◌≡◌, inl, inr, ℕ, ◌+◌, true, List, Opt
 use Rattle.news_types.specs.Books.{Book, onto}
 use Rattle.news_types.specs.Names.{Bytes}
 use Rattle.news_types.specs.declared.entry.Entry.{Entry}
-use Rattle.news_types.specs.declared.words.Format.TheVariants.{Ninjs, Text7901}
 use Rattle.news_types.specs.History.{History}
 use Rattle.news_io.specs.Clock.{ClockMeaning}
 use Rattle.news_io.specs.Disk.{DiskMeaning}
@@ -26,27 +25,27 @@ use Rattle.room_reports.specs.Texts.{feed_report_at, queue_report_at}
 use Rattle.room_runs.specs.Desk.{Hand, line_hand}
 use Rattle.room_runs.specs.Lines.{LONGEST_LINE, of_line}
 use Rattle.room_runs.specs.Members.{MembersAnswered}
-use Rattle.room_runs.specs.Wires.{of_incoming, wire_hand}
-use Rattle.text7901.specs.Wire.{wire}
-use Rattle.wire_run.specs.Decided.{decided}
-use Rattle.wire_run.specs.Members.{of_found, of_item, one_item, no_item}
+use Rattle.room_runs.specs.Wires.{wire_hand}
 use Rattle.store_files.specs.Store.{Opens}
 use Rattle.run_status.specs.Status.{number_of}
 use Rattle.told_entries.specs.Entries.{audit}
 use Rattle.list_runs.specs.Why.{why_line}
+use Rattle.list_marks.specs.Limits.{limits_lines}
+use Rattle.news_room.specs.Log.{sizes}
 use Rattle.store_files.specs.Trouble.{status_of, trouble_of_pack}
 use Rattle.store_files.proofs.Serving.{served}
 use Rattle.newsdesk_cli.specs.Archive.{IsAsked}
 use Rattle.newsdesk_cli.specs.Command.{check_line, IsServed, IsAskServed, Serves, HasAnswered, IsReportOf, IsDrain, Does}
 use Rattle.newsdesk_cli.specs.Imports.{IsImportOf}
-use Rattle.newsdesk_cli.specs.Lists.{IsAsk}
+use Rattle.newsdesk_cli.specs.Ingests.{answer_of, decided, all}
+use Rattle.newsdesk_cli.specs.Lists.{IsAsk, IsDigest}
 use Rattle.newsdesk_cli.specs.Opened.{NotOpened}
 use Rattle.newsdesk_cli.specs.Packages.{IsPackageOf}
 use Rattle.newsdesk_cli.specs.Telling.{IsTold, IsAnswered}
 use Rattle.newsdesk_cli.specs.Packing.{packed_line}
 use Rattle.command_words.specs.declared.words.Job.{Job}
-use Rattle.command_words.specs.declared.words.Job.TheVariants.{Init, Batch, Ingest, Import, Package, Feed, Queue, Archive, Contents, Audit, Ask, Why, Drain, Receive, Ship, StandIn, Drill, Check, Pack}
-use Rattle.newsdesk_cli.proofs.Asking.{one_length, written_served, asked_served_at}
+use Rattle.command_words.specs.declared.words.Job.TheVariants.{Init, Batch, Ingest, Import, Package, Feed, Queue, Archive, Contents, Audit, Ask, Digest, Limits, Why, Drain, Receive, Ship, StandIn, Drill, Check, Pack}
+use Rattle.newsdesk_cli.proofs.Asking.{one_length, written_served, asked_served_at, digest_served_at}
 use Rattle.newsdesk_cli.proofs.Commands.{rose_along}
 use Rattle.newsdesk_cli.proofs.Draining.{drain_else, drain_failed}
 use Rattle.newsdesk_cli.proofs.Importing.{import_served}
@@ -128,6 +127,11 @@ module _ {D O S C : Type 0} (disk : DiskMeaning D) (clock : ClockMeaning C) (sou
   asked entries (inr done) =
       asked_served_at (pair_of disk) source sink entries i i' o o' status h done.opened.history (one_length (disk.seen log) (disk.seen side) store done.opened.store h done.opened.history long done.opened.long opens (done.opened.bytes told told')) Before Now done.told
 
+  digested : (entries : ℕ) → IsDigest disk sink entries log log' side side' o o' status → IsAskServed Before Now entries h status
+  digested entries (inl not) = let s = not_opened not in record { own = λ is. absurd (s.own is); whole = s.whole; failed = s.failed }
+  digested entries (inr done) =
+      digest_served_at sink entries o o' status h done.opened.history (one_length (disk.seen log) (disk.seen side) store done.opened.store h done.opened.history long done.opened.long opens (done.opened.bytes told told')) Before Now done.told
+
   drained : {L : Type 0} (link : LinkMeaning L) (l l' : List L) → IsDrain disk clock sink log log' side side' o o' c c' status link l l' → IsServed Before Now status
   drained link l l' (inl not) = not_opened not.why.why
   drained link l l' (inr a) = record {
@@ -144,8 +148,7 @@ module _ {D O S C : Type 0} (disk : DiskMeaning D) (clock : ClockMeaning C) (sou
   serves link l l' (Some Batch) (inl not) = not_opened not.why
   serves link l l' (Some Batch) (inr done) = answered line_hand of_line (ended LONGEST_LINE) (lines LONGEST_LINE) done
   serves link l l' (Some (Ingest format provider)) (inl not) = not_opened not.why
-  serves link l l' (Some (Ingest Text7901 provider)) (inr done) = answered wire_hand (λ start. of_found (of_incoming start provider)) decided wire done
-  serves link l l' (Some (Ingest Ninjs provider)) (inr done) = answered wire_hand (λ start. of_item (of_incoming start provider)) no_item one_item done
+  serves link l l' (Some (Ingest format provider)) (inr done) = answered wire_hand (answer_of format provider) (decided format) (all format) done
   serves link l l' (Some (Feed subscriber after)) did = reported (feed_report_at subscriber after) did.1
   serves link l l' (Some Queue) did = reported queue_report_at did.1
   serves link l l' (Some Drain) did = drained link l l' did.1
@@ -158,6 +161,8 @@ module _ {D O S C : Type 0} (disk : DiskMeaning D) (clock : ClockMeaning C) (sou
   serves link l l' (Some (Contents publication)) did = elim did.1 [ inl not ↦ not_opened not | inr done ↦ answer_served sink o o' Before Now status (contents_report done.opened.history done.opened.store publication) done.told ]
   serves link l l' (Some (Audit after)) did = elim did.1 [ inl not ↦ not_opened not | inr done ↦ written_served sink (audit after done.opened.history) o o' Before Now status done.told ]
   serves link l l' (Some (Ask entries)) did = asked entries did.1
+  serves link l l' (Some (Digest entries)) did = digested entries did.1
+  serves link l l' (Some Limits) did = elim did.1 [ inl not ↦ not_opened not | inr done ↦ written_served sink (limits_lines done.opened.history (65 + sizes done.opened.history)) o o' Before Now status done.told ]
   serves link l l' (Some (Why publication subscriber)) did = elim did.1 [ inl not ↦ not_opened not | inr done ↦ written_served sink (why_line done.opened.history publication subscriber) o o' Before Now status done.told ]
   serves link l l' (Some (Import caller)) did = taken caller did
   serves link l l' (Some (Package caller number)) did = packaged caller number did

@@ -1,7 +1,6 @@
 -- What each command does to the log, its side and the output, and with which status it ends.
 use Rattle.std.specs.Prelude.{◌≡◌, ◌⊎◌, ◌≤◌, ◌<◌, ℕ, ◌+◌, Bool, true, List, [], ◌∷◌, ◌++◌, length, Option, Some, None}
 use Rattle.news_types.specs.declared.query.Query.TheVariants as query
-use Rattle.news_types.specs.declared.words.Format.{Format}
 use Rattle.news_types.specs.Books.{Book}
 use Rattle.news_types.specs.Frames.{Frame}
 use Rattle.news_types.specs.Names.{Bytes}
@@ -29,12 +28,12 @@ use Rattle.news_pair.specs.PackFaults.{FaultCounts}
 use Rattle.news_pair.specs.Stands.{log_disk, side_disk}
 use Rattle.news_room.specs.declared.room.Room.{Room}
 use Rattle.room_runs.specs.Batch.{InputAnswered}
-use Rattle.room_runs.specs.Wires.{IngestAnswered}
 use Rattle.newsdesk_cli.specs.Telling.{IsStopped, IsTold, IsAnswered, IsRefusedUse}
 use Rattle.newsdesk_cli.specs.Opened.{NotOpened, IsLook, HasGoneOn, NotBegun}
 use Rattle.newsdesk_cli.specs.Archive.{IsArchive}
 use Rattle.newsdesk_cli.specs.Imports.{IsImportOf}
-use Rattle.newsdesk_cli.specs.Lists.{IsAudit, IsAsk, IsWhy}
+use Rattle.newsdesk_cli.specs.Ingests.{IngestAnswered}
+use Rattle.newsdesk_cli.specs.Lists.{IsAudit, IsAsk, IsDigest, IsLimits, IsWhy}
 use Rattle.newsdesk_cli.specs.Packages.{IsPackageOf, IsContents}
 use Rattle.newsdesk_cli.specs.Standby.{ShipsOver}
 use Rattle.room_runs.specs.Lines.{no_frames, LONGEST_INPUT}
@@ -56,8 +55,9 @@ use Rattle.run_status.specs.Status.{number_of, line_of}
 use Rattle.run_status.specs.declared.status.Status.{Status}
 use Rattle.store_files.specs.Trouble.{trouble_of_pack}
 use Rattle.store_files.specs.declared.trouble.Trouble.TheVariants as trouble
+use Rattle.command_words.specs.declared.words.IngestFormat.{IngestFormat}
 use Rattle.command_words.specs.declared.words.Job.{Job}
-use Rattle.command_words.specs.declared.words.Job.TheVariants.{Init, Batch, Ingest, Import, Package, Feed, Queue, Archive, Contents, Audit, Ask, Why, Drain, Receive, Ship, StandIn, Drill, Check, Pack}
+use Rattle.command_words.specs.declared.words.Job.TheVariants.{Init, Batch, Ingest, Import, Package, Feed, Queue, Archive, Contents, Audit, Ask, Digest, Limits, Why, Drain, Receive, Ship, StandIn, Drill, Check, Pack}
 
 -- how many entries and publications a list has, as a line
 abbrev pub check_line : History → List ℕ
@@ -114,7 +114,7 @@ module _ {D O S C : Type 0} (disk : DiskMeaning D) (clock : ClockMeaning C) (sou
   IsBatch = NotBegun disk sink log log' side side' i i' o o' c c' status ⊎ HasAnswered (λ room after b. InputAnswered (pair_of disk) clock source sink room after c c' i i' o o' b 65 status)
 
   -- the stories of the input, in this format, came in from a provider
-  abbrev pub IsIngest : Format → Bytes → Type 0
+  abbrev pub IsIngest : IngestFormat → Bytes → Type 0
   IsIngest format provider = NotBegun disk sink log log' side side' i i' o o' c c' status ⊎ HasAnswered (λ room after b. IngestAnswered (pair_of disk) clock source sink provider format room after c c' i i' o o' b 65 status)
 
 module _ {D O C : Type 0} (disk : DiskMeaning D) (clock : ClockMeaning C) (sink : SinkMeaning O)
@@ -219,6 +219,8 @@ module _ {D O S C L : Type 0} (disk : DiskMeaning D) (clock : ClockMeaning C) (s
   Does (Some (Contents publication)) = Unread × IsContents disk sink publication log log' side side' o o' status
   Does (Some (Audit after)) = Unread × IsAudit disk sink after log log' side side' o o' status
   Does (Some (Ask entries)) = (c' ≡ c) × IsAsk disk source sink entries log log' side side' i i' o o' status
+  Does (Some (Digest entries)) = Unread × IsDigest disk sink entries log log' side side' o o' status
+  Does (Some Limits) = Unread × IsLimits disk sink log log' side side' o o' status
   Does (Some (Why publication subscriber)) = Unread × IsWhy disk sink publication subscriber log log' side side' o o' status
   Does (Some Pack) = Unread × IsPack disk sink log log' side side' o o' status
   Does (Some Batch) = IsBatch disk clock source sink log log' side side' i i' o o' c c' status
@@ -239,7 +241,7 @@ pub record IsServed (before now status : ℕ) : Type 0 where
   pub whole : status ≡ 7 → ⊥
   pub failed : status ≡ 6 → Rose before now
 
--- so it is with `ask`, but that it refuses a list that has not so many entries
+-- so it is with `ask` and `digest`, but that each refuses a list that has not so many entries
 pub record IsAskServed (before now entries : ℕ) (h : History) (status : ℕ) : Type 0 where
   pub own : status ≡ 3 → length h < entries
   pub whole : status ≡ 7 → ⊥
@@ -259,6 +261,8 @@ Serves before now h (Some (Archive page query)) status = IsServed before now sta
 Serves before now h (Some (Contents publication)) status = IsServed before now status
 Serves before now h (Some (Audit after)) status = IsServed before now status
 Serves before now h (Some (Ask entries)) status = IsAskServed before now entries h status
+Serves before now h (Some (Digest entries)) status = IsAskServed before now entries h status
+Serves before now h (Some Limits) status = IsServed before now status
 Serves before now h (Some (Why publication subscriber)) status = IsServed before now status
 Serves before now h (Some Drain) status = IsServed before now status
 Serves before now h (Some (Receive name)) status = Unit {0}

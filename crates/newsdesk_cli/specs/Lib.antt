@@ -3,6 +3,7 @@ pub mod Telling
 pub mod Opened
 pub mod Archive
 pub mod Imports
+pub mod Ingests
 pub mod Lists
 pub mod Packages
 pub mod Standby

@@ -1,5 +1,5 @@
 -- What the commands do that tell a list, or ask at a place of it: to the log, its side, the input and the output, and with which status they end.
-use Rattle.std.specs.Prelude.{◌≡◌, ◌⊎◌, ◌<◌, ◌≤◌, ℕ, length}
+use Rattle.std.specs.Prelude.{◌≡◌, ◌⊎◌, ◌<◌, ◌≤◌, ℕ, ◌+◌, length}
 use Rattle.news_types.specs.Names.{Bytes}
 use Rattle.news_types.specs.History.{History}
 use Rattle.news_io.specs.Disk.{DiskMeaning}
@@ -16,6 +16,9 @@ use Rattle.told_entries.specs.Entries.{audit}
 use Rattle.list_runs.specs.Life.{PastAnswered}
 use Rattle.list_runs.specs.Lists.{first_entries}
 use Rattle.list_runs.specs.Why.{why_line}
+use Rattle.list_marks.specs.Digest as marks
+use Rattle.list_marks.specs.Limits.{limits_lines}
+use Rattle.news_room.specs.Log.{sizes}
 use Rattle.newsdesk_cli.specs.Opened.{NotOpened, IsLook, HasLooked}
 use Rattle.newsdesk_cli.specs.Telling.{IsStopped}
 
@@ -23,6 +26,14 @@ module _ {D O : Type 0} (disk : DiskMeaning D) (sink : SinkMeaning O) where
   -- a line for each entry of the list of the files behind the first so many was written, as far as the output and the memory allowed it
   abbrev pub IsAudit : ℕ → D → D → D → D → O → O → ℕ → Type 0
   IsAudit after log log' side side' o o' status = IsLook disk sink log log' side side' o o' status (λ store h. IsWrittenOut sink (audit after h) o o' status)
+
+  -- so it is with the digest of its first entries, so many; or it has not so many
+  abbrev pub IsDigest : ℕ → D → D → D → D → O → O → ℕ → Type 0
+  IsDigest entries log log' side side' o o' status = IsLook disk sink log log' side side' o o' status (λ store h. marks.IsDigest sink entries h o o' status)
+
+  -- so it is with a line for each limit of the store
+  abbrev pub IsLimits : D → D → D → D → O → O → ℕ → Type 0
+  IsLimits log log' side side' o o' status = IsLook disk sink log log' side side' o o' status (λ store h. IsWrittenOut sink (limits_lines h (65 + sizes h)) o o' status)
 
   -- so it is with the line that says why a publication on it is due to a subscriber or not
   abbrev pub IsWhy : ℕ → Bytes → D → D → D → D → O → O → ℕ → Type 0

@@ -10,14 +10,17 @@ ghost use Rattle.receiver_files.specs.Receive.{IsReceive, IsServed};
 ghost use Rattle.room_reports.specs.Texts.{feed_report_at, queue_report_at};
 ghost use Rattle.store_files.specs.Store.{Opens};
 ghost use Rattle.command_words.specs.Words.{job_of};
-ghost use Rattle.newsdesk_cli.specs.Command.{IsInit, IsBatch, IsIngest, IsReportOf, IsDrain, IsDrilled, IsCheck, IsPack, Does, Serves, ReceiverServes, StandbyServes, UsesLinks};
+ghost use Rattle.newsdesk_cli.specs.Command.{IsInit, IsBatch, IsReportOf, IsDrain, IsDrilled, IsCheck, IsPack, Does, Serves, ReceiverServes, StandbyServes, UsesLinks};
 
 use crate::archive::ask_archive;
 use crate::ask::ask_past;
 use crate::audit::audit_list;
 use crate::check::check_line;
 use crate::contents::list_contents;
+use crate::digest::digest_list;
 use crate::import::take_table;
+use crate::ingest::ingest;
+use crate::limits::list_limits;
 use crate::pack::tell_packed;
 use crate::package::take_package;
 use crate::standby::ship_list;
@@ -27,11 +30,11 @@ use command_words::{Job, read_words};
 use feed_drill::run_drill;
 use news_io::{Clock, Disk, Failed, Keeper, Link, Sink, Source};
 use news_journal::{Header, Journal};
-use news_types::{Format, Name, Text};
+use news_types::{Name, Text};
 use publish_workers::drain_links;
 use receiver_files::receive_frames;
 use room_reports::{tell_feed, tell_queue};
-use room_runs::{answer_input, ingest_input};
+use room_runs::answer_input;
 use run_status::tell_status;
 use standby_files::stand_in;
 use std::alloc::Global;
@@ -103,6 +106,8 @@ fn do_job<S: Source, O: Sink, D: Disk, C: Clock, L: Link>(
         Job::Contents(publication) => list_contents(alloc, output, log, side, publication),
         Job::Audit(after) => audit_list(alloc, output, log, side, after),
         Job::Ask(entries) => ask_past(alloc, input, output, log, side, entries),
+        Job::Digest(entries) => digest_list(alloc, output, log, side, entries),
+        Job::Limits => list_limits(alloc, output, log, side),
         Job::Why {
             publication,
             subscriber,
@@ -164,30 +169,6 @@ fn batch<S: Source, O: Sink, D: Disk, C: Clock>(
     match open_room(alloc, log, side) {
         Ok(mut room) => {
             let status = answer_input(alloc, input, output, &mut room, clock);
-            let (log, side) = room.into_keeper().into_disks();
-            (status, log, side)
-        }
-        Err((log, side, trouble)) => (tell_trouble(output, trouble), log, side),
-    }
-}
-
-/// Takes in what the input has, in this format, from this provider.
-#[tactic(none)]
-fn ingest<S: Source, O: Sink, D: Disk, C: Clock>(
-    alloc: Global,
-    input: &mut S,
-    output: &mut O,
-    log: D,
-    side: D,
-    clock: &mut C,
-    format: Format,
-    provider: Name,
-) -> (u8, D, D)
-    ensures { IsIngest D.disk C.clock S.source O.sink log result.1 side result.2 input.old input.new output.old output.new clock.old clock.new result.0 format provider }
-{
-    match open_room(alloc, log, side) {
-        Ok(mut room) => {
-            let status = ingest_input(alloc, input, output, &mut room, clock, format, provider);
             let (log, side) = room.into_keeper().into_disks();
             (status, log, side)
         }

@@ -3,7 +3,7 @@ use Rattle.std.specs.List.{slice_get}
 use Rattle.std.proofs.Common.{◌≡◌, ◌⊎◌, inl, inr, ℕ, List, [], ◌∷◌, ◌++◌, length, Option, Some, None, refl, sym, ap, ◌∙◌, subst, append-nil}
 use Rattle.news_types.specs.declared.query.Query.{Query}
 use Rattle.news_types.specs.declared.query.Query.TheVariants as query
-use Rattle.news_types.specs.declared.words.Format.TheVariants.{Ninjs, Text7901}
+use Rattle.command_words.specs.declared.words.IngestFormat.{IngestFormat}
 use Rattle.news_types.specs.declared.entry.Entry.{Entry}
 use Rattle.news_types.specs.Names.{Bytes}
 use Rattle.news_types.specs.History.{History}
@@ -20,7 +20,7 @@ use Rattle.news_pair.specs.Stands.{log_disk, side_disk}
 use Rattle.news_room.specs.Stands.{in_doubt}
 use Rattle.room_reports.specs.Texts.{feed_report_at, queue_report_at}
 use Rattle.room_runs.specs.Batch.{InputAnswered}
-use Rattle.room_runs.specs.Wires.{IngestAnswered}
+use Rattle.newsdesk_cli.specs.Ingests.{IngestAnswered}
 use Rattle.store_files.specs.Files.{Files, OpenTo, OpenAlike, MayLeave, LeftSince}
 use Rattle.world_laws.specs.World.{World, Event, Reopens, opening, reopened, happens, run}
 use Rattle.world_laws.proofs.Headline.{headline_holds}
@@ -31,15 +31,15 @@ use Rattle.newsdesk_cli.specs.Opened.{IsLook, HasGoneOn}
 use Rattle.newsdesk_cli.specs.FilesLeft.{NoneInDoubt, FilesLeft}
 use Rattle.newsdesk_cli.proofs.Asking.{asked_looks}
 use Rattle.program_events.specs.Events.{line_input}
-use Rattle.program_events.specs.Stories.{wire_input, item_input}
+use Rattle.program_events.specs.Stories.{ingest_input}
 use Rattle.program_events.specs.Leads.{IsBegunOf, LeadsOn}
-use Rattle.program_events.specs.Chains.{Did, Init, Batch, Ingest, Import, Package, Feed, Queue, Drain, Check, Archive, Contents, Audit, Ask, Why, Ship, Pack, Run, LeftByRun, MayCrash, IsLeftBy, AreLeft, FollowOneAnother, world, AreOfGoing, Answers, Takes, Publishes, Reports, Pushes, AreOfRun, AreOfRuns, ComesTo, ChainsAreEvents}
+use Rattle.program_events.specs.Chains.{Did, Init, Batch, Ingest, Import, Package, Feed, Queue, Drain, Check, Archive, Contents, Audit, Ask, Digest, Limits, Why, Ship, Pack, Run, LeftByRun, MayCrash, IsLeftBy, AreLeft, FollowOneAnother, world, AreOfGoing, Answers, Takes, Publishes, Reports, Pushes, AreOfRun, AreOfRuns, ComesTo, ChainsAreEvents}
 use Rattle.program_events.proofs.Turns.{run_on}
 use Rattle.program_events.proofs.Draining.{drain_happened}
 use Rattle.program_events.proofs.Imports.{import_happened, import_leads}
 use Rattle.program_events.proofs.Packages.{package_happened, package_leads}
 use Rattle.program_events.proofs.Reports.{report_happened}
-use Rattle.program_events.proofs.Runs.{batch_events, wire_events, item_events}
+use Rattle.program_events.proofs.Runs.{batch_events, ingest_events}
 use Rattle.program_events.proofs.Stores.{one_history, alike, to_both, refused_keeps, init_keeps, init_time, opened_keeps, ship_keeps, ship_time, packed_within, counts_since}
 
 -- ---- a world behind an opening
@@ -238,20 +238,12 @@ module _ {D S O C L : Type 0} (disk : DiskMeaning D) (clock : ClockMeaning C) (s
       of_run = is_of (Batch (inr a)) is;
     }
 
-    wire_happened : (provider : Bytes) (a : HasAnswered disk clock source sink r.log r.log' r.side r.side' r.input r.input' r.output r.output' r.clock_was r.clock_is r.status (λ room after b. IngestAnswered (pair_of disk) clock source sink provider Text7901 room after r.clock_was r.clock_is r.input r.input' r.output r.output' b 65 r.status))
-        → r.did ≡ Ingest Text7901 provider (inr a) → HasHappened r a.went (Answers disk clock source sink link (wire_input provider) r a)
-    wire_happened provider a is = record {
-      shown = λ w same. wire_events disk clock source sink r.log r.log' r.side r.side' r.input r.input' r.output r.output' r.clock_was r.clock_is r.status provider a r.tells r.tells_side write w same;
+    ingest_happened : (format : IngestFormat) (provider : Bytes) (a : HasAnswered disk clock source sink r.log r.log' r.side r.side' r.input r.input' r.output r.output' r.clock_was r.clock_is r.status (λ room after b. IngestAnswered (pair_of disk) clock source sink provider format room after r.clock_was r.clock_is r.input r.input' r.output r.output' b 65 r.status))
+        → r.did ≡ Ingest format provider (inr a) → HasHappened r a.went (Answers disk clock source sink link (ingest_input format provider) r a)
+    ingest_happened format provider a is = record {
+      shown = λ w same. ingest_events disk clock source sink r.log r.log' r.side r.side' r.input r.input' r.output r.output' r.clock_was r.clock_is r.status format provider a r.tells r.tells_side write w same;
       leads = λ w events x. x.leads;
-      of_run = is_of (Ingest Text7901 provider (inr a)) is;
-    }
-
-    item_happened : (provider : Bytes) (a : HasAnswered disk clock source sink r.log r.log' r.side r.side' r.input r.input' r.output r.output' r.clock_was r.clock_is r.status (λ room after b. IngestAnswered (pair_of disk) clock source sink provider Ninjs room after r.clock_was r.clock_is r.input r.input' r.output r.output' b 65 r.status))
-        → r.did ≡ Ingest Ninjs provider (inr a) → HasHappened r a.went (Answers disk clock source sink link (item_input provider) r a)
-    item_happened provider a is = record {
-      shown = λ w same. item_events disk clock source sink r.log r.log' r.side r.side' r.input r.input' r.output r.output' r.clock_was r.clock_is r.status provider a r.tells r.tells_side write w same;
-      leads = λ w events x. x.leads;
-      of_run = is_of (Ingest Ninjs provider (inr a)) is;
+      of_run = is_of (Ingest format provider (inr a)) is;
     }
 
     table_taken : (caller : Bytes) (a : HasTakenTable disk clock source sink r.log r.log' r.side r.side' r.input r.input' r.output r.output' r.clock_was r.clock_is r.status caller)
@@ -296,15 +288,11 @@ module _ {D S O C L : Type 0} (disk : DiskMeaning D) (clock : ClockMeaning C) (s
         as_before (λ v events. subst (λ (d : TheDid). AreOfRun disk clock source sink link v events r d events) (sym is) refl) files
         (init_keeps disk store long r.log r.side list r.tells r.tells_side from.opens sink owner r.log' r.side' r.output r.output' r.status did files (counts_since disk r.log r.log' (init_time disk store long r.log r.side list r.tells r.tells_side from.opens sink owner r.log' r.side' r.output r.output' r.status did) r.side' files may))
     left_now (Batch (inr a)) is files may = going_left a.went _ (lines_happened a is) files may
-    left_now (Ingest Text7901 provider (inr a)) is files may = going_left a.went _ (wire_happened provider a is) files may
-    left_now (Ingest Ninjs provider (inr a)) is files may = going_left a.went _ (item_happened provider a is) files may
+    left_now (Ingest format provider (inr a)) is files may = going_left a.went _ (ingest_happened format provider a is) files may
     left_now (Batch (inl refused)) is files may =
         as_before (λ v events. subst (λ (d : TheDid). AreOfRun disk clock source sink link v events r d events) (sym is) refl) files
         (refused_keeps disk store long r.log r.side list r.tells r.tells_side from.opens r.log' r.side' refused.why.why refused.why.refused files (counts_since disk r.log r.log' (refused.why.refused.crash r.tells r.tells_side).later r.side' files may))
-    left_now (Ingest Text7901 provider (inl refused)) is files may =
-        as_before (λ v events. subst (λ (d : TheDid). AreOfRun disk clock source sink link v events r d events) (sym is) refl) files
-        (refused_keeps disk store long r.log r.side list r.tells r.tells_side from.opens r.log' r.side' refused.why.why refused.why.refused files (counts_since disk r.log r.log' (refused.why.refused.crash r.tells r.tells_side).later r.side' files may))
-    left_now (Ingest Ninjs provider (inl refused)) is files may =
+    left_now (Ingest format provider (inl refused)) is files may =
         as_before (λ v events. subst (λ (d : TheDid). AreOfRun disk clock source sink link v events r d events) (sym is) refl) files
         (refused_keeps disk store long r.log r.side list r.tells r.tells_side from.opens r.log' r.side' refused.why.why refused.why.refused files (counts_since disk r.log r.log' (refused.why.refused.crash r.tells r.tells_side).later r.side' files may))
     left_now (Import caller (inr a)) is files may = going_left a.went _ (table_taken caller a is) files may
@@ -332,6 +320,8 @@ module _ {D S O C L : Type 0} (disk : DiskMeaning D) (clock : ClockMeaning C) (s
     left_now (Contents publication did) is files may = looked_now (λ v events. subst (λ (d : TheDid). AreOfRun disk clock source sink link v events r d events) (sym is) refl) did files may
     left_now (Audit after did) is files may = looked_now (λ v events. subst (λ (d : TheDid). AreOfRun disk clock source sink link v events r d events) (sym is) refl) did files may
     left_now (Ask entries did) is files may = looked_now (λ v events. subst (λ (d : TheDid). AreOfRun disk clock source sink link v events r d events) (sym is) refl) (asked_looks disk source sink entries r.log r.log' r.side r.side' r.input r.input' r.output r.output' r.status did) files may
+    left_now (Digest entries did) is files may = looked_now (λ v events. subst (λ (d : TheDid). AreOfRun disk clock source sink link v events r d events) (sym is) refl) did files may
+    left_now (Limits did) is files may = looked_now (λ v events. subst (λ (d : TheDid). AreOfRun disk clock source sink link v events r d events) (sym is) refl) did files may
     left_now (Why publication subscriber did) is files may = looked_now (λ v events. subst (λ (d : TheDid). AreOfRun disk clock source sink link v events r d events) (sym is) refl) did files may
     left_now (Ship name did) is files may =
         as_before (λ v events. subst (λ (d : TheDid). AreOfRun disk clock source sink link v events r d events) (sym is) refl) files
@@ -357,15 +347,11 @@ module _ {D S O C L : Type 0} (disk : DiskMeaning D) (clock : ClockMeaning C) (s
         as_before (λ v events. subst (λ (d : TheDid). AreOfRun disk clock source sink link v events r d events) (sym is) refl) files
         (init_keeps disk store long r.log r.side list r.tells r.tells_side from.opens sink owner r.log' r.side' r.output r.output' r.status did files may)
     left_then (Batch (inr a)) is crash files may = going_crashed a.went _ (lines_happened a is) files crash may
-    left_then (Ingest Text7901 provider (inr a)) is crash files may = going_crashed a.went _ (wire_happened provider a is) files crash may
-    left_then (Ingest Ninjs provider (inr a)) is crash files may = going_crashed a.went _ (item_happened provider a is) files crash may
+    left_then (Ingest format provider (inr a)) is crash files may = going_crashed a.went _ (ingest_happened format provider a is) files crash may
     left_then (Batch (inl refused)) is crash files may =
         as_before (λ v events. subst (λ (d : TheDid). AreOfRun disk clock source sink link v events r d events) (sym is) refl) files
         (refused_keeps disk store long r.log r.side list r.tells r.tells_side from.opens r.log' r.side' refused.why.why refused.why.refused files may)
-    left_then (Ingest Text7901 provider (inl refused)) is crash files may =
-        as_before (λ v events. subst (λ (d : TheDid). AreOfRun disk clock source sink link v events r d events) (sym is) refl) files
-        (refused_keeps disk store long r.log r.side list r.tells r.tells_side from.opens r.log' r.side' refused.why.why refused.why.refused files may)
-    left_then (Ingest Ninjs provider (inl refused)) is crash files may =
+    left_then (Ingest format provider (inl refused)) is crash files may =
         as_before (λ v events. subst (λ (d : TheDid). AreOfRun disk clock source sink link v events r d events) (sym is) refl) files
         (refused_keeps disk store long r.log r.side list r.tells r.tells_side from.opens r.log' r.side' refused.why.why refused.why.refused files may)
     left_then (Import caller (inr a)) is crash files may = going_crashed a.went _ (table_taken caller a is) files crash may
@@ -393,6 +379,8 @@ module _ {D S O C L : Type 0} (disk : DiskMeaning D) (clock : ClockMeaning C) (s
     left_then (Contents publication did) is crash files may = looked_then (λ v events. subst (λ (d : TheDid). AreOfRun disk clock source sink link v events r d events) (sym is) refl) did files may
     left_then (Audit after did) is crash files may = looked_then (λ v events. subst (λ (d : TheDid). AreOfRun disk clock source sink link v events r d events) (sym is) refl) did files may
     left_then (Ask entries did) is crash files may = looked_then (λ v events. subst (λ (d : TheDid). AreOfRun disk clock source sink link v events r d events) (sym is) refl) (asked_looks disk source sink entries r.log r.log' r.side r.side' r.input r.input' r.output r.output' r.status did) files may
+    left_then (Digest entries did) is crash files may = looked_then (λ v events. subst (λ (d : TheDid). AreOfRun disk clock source sink link v events r d events) (sym is) refl) did files may
+    left_then (Limits did) is crash files may = looked_then (λ v events. subst (λ (d : TheDid). AreOfRun disk clock source sink link v events r d events) (sym is) refl) did files may
     left_then (Why publication subscriber did) is crash files may = looked_then (λ v events. subst (λ (d : TheDid). AreOfRun disk clock source sink link v events r d events) (sym is) refl) did files may
     left_then (Ship name did) is crash files may =
         as_before (λ v events. subst (λ (d : TheDid). AreOfRun disk clock source sink link v events r d events) (sym is) refl) files

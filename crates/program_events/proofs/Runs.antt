@@ -3,7 +3,7 @@ use Rattle.std.proofs.Common.{◌≡◌, inr, ℕ, true, List, Option, Some, ref
 use Rattle.news_types.specs.Books.{Book}
 use Rattle.news_types.specs.declared.entry.Entry.{Entry}
 use Rattle.news_types.specs.declared.query.Query.TheVariants as query
-use Rattle.news_types.specs.declared.words.Format.TheVariants.{Ninjs, Text7901}
+use Rattle.command_words.specs.declared.words.IngestFormat.{IngestFormat}
 use Rattle.news_types.specs.Names.{Bytes}
 use Rattle.news_types.specs.History.{History}
 use Rattle.news_types.specs.Frames.{Writer}
@@ -27,16 +27,16 @@ use Rattle.room_runs.specs.Life.{life}
 use Rattle.room_runs.specs.Lines.{of_line}
 use Rattle.room_runs.specs.Members.{MembersAnswered}
 use Rattle.room_runs.specs.Batch.{InputAnswered}
-use Rattle.room_runs.specs.Wires.{wire_hand, of_incoming, IngestAnswered}
+use Rattle.room_runs.specs.Wires.{wire_hand}
 use Rattle.newsdesk_cli.specs.Command.{HasAnswered, Does}
 use Rattle.command_words.specs.declared.words.Job.{Job}
 use Rattle.command_words.specs.declared.words.Job.TheVariants.{Batch, Ingest, Import, Package, Feed, Queue, Drain}
 use Rattle.program_events.specs.Events.{Input, line_input}
-use Rattle.program_events.specs.Stories.{wire_input, item_input}
+use Rattle.program_events.specs.Stories.{ingest_input}
 use Rattle.program_events.specs.Runs.{Reads, RunHappened, AnswersAreEvents, AreEvents, RunsAreEvents}
 use Rattle.program_events.proofs.Members.{Means}
 use Rattle.program_events.proofs.Lines.{line_means}
-use Rattle.program_events.proofs.Stories.{wire_means, item_means}
+use Rattle.program_events.proofs.Stories.{ingest_means}
 use Rattle.program_events.proofs.Reports.{report_is_events}
 use Rattle.program_events.proofs.Draining.{drain_is_events}
 use Rattle.program_events.proofs.Imports.{import_happened}
@@ -102,21 +102,15 @@ module _ {D S O C : Type 0} (disk : DiskMeaning D) (clock : ClockMeaning C) (sou
   pub batch_events : (did : Answered (λ room after b. InputAnswered (pair_of disk) clock source sink room after c c' i i' o o' b 65 status)) → AnswersAreEvents disk clock source sink log log' side side' i i' o o' c c' status line_input did
   batch_events did = members_happened disk clock source sink line_hand of_line line_input (line_means 65) log log' side side' i i' o o' c c' status did
 
-  pub wire_events : (provider : Bytes) (did : Answered (λ room after b. IngestAnswered (pair_of disk) clock source sink provider Text7901 room after c c' i i' o o' b 65 status))
-      → AnswersAreEvents disk clock source sink log log' side side' i i' o o' c c' status (wire_input provider) did
-  wire_events provider did =
-      members_happened disk clock source sink wire_hand (λ start. of_found (of_incoming start provider)) (wire_input provider) (wire_means 65 provider) log log' side side' i i' o o' c c' status did
-
-  pub item_events : (provider : Bytes) (did : Answered (λ room after b. IngestAnswered (pair_of disk) clock source sink provider Ninjs room after c c' i i' o o' b 65 status))
-      → AnswersAreEvents disk clock source sink log log' side side' i i' o o' c c' status (item_input provider) did
-  item_events provider did =
-      members_happened disk clock source sink wire_hand (λ start. of_item (of_incoming start provider)) (item_input provider) (item_means 65 provider) log log' side side' i i' o o' c c' status did
+  pub ingest_events : (format : IngestFormat) (provider : Bytes) (did : Answered (λ room after b. IngestAnswered (pair_of disk) clock source sink provider format room after c c' i i' o o' b 65 status))
+      → AnswersAreEvents disk clock source sink log log' side side' i i' o o' c c' status (ingest_input format provider) did
+  ingest_events format provider did =
+      members_happened disk clock source sink wire_hand (answer_of format provider) (ingest_input format provider) (ingest_means 65 provider format) log log' side side' i i' o o' c c' status did
 
   module _ {L : Type 0} (link : LinkMeaning L) (l l' : List L) where
     pub are_events : (job : Option Job) → (did : Does disk clock source sink link log log' side side' i i' o o' c c' l l' status job) → AreEvents disk clock source sink log log' side side' i i' o o' c c' status link l l' job did
     are_events (Some Batch) (inr did) = batch_events did
-    are_events (Some (Ingest Text7901 provider)) (inr did) = wire_events provider did
-    are_events (Some (Ingest Ninjs provider)) (inr did) = item_events provider did
+    are_events (Some (Ingest format provider)) (inr did) = ingest_events format provider did
     are_events (Some (Import caller)) (inr did) = λ tells tells' write w same. import_happened disk clock source sink caller log log' side side' c c' i i' o o' status did.went tells tells' write w same did.imported
     are_events (Some (Package caller number)) (inr did) = λ tells tells' write w same. package_happened disk clock source sink caller number log log' side side' c c' i i' o o' status did.went tells tells' write w same did.published
     are_events (Some (Feed subscriber after)) did = report_is_events disk clock sink (query.Feed subscriber after) (feed_report_at subscriber after) log log' side side' o o' c c' status did.1

@@ -3,8 +3,7 @@ use Rattle.std.specs.Prelude.{◌≡◌, ◌⊎◌, ℕ, List, [], ◌∷◌, �
 use Rattle.std.proofs.Common.{inl, inr}
 use Rattle.news_types.specs.declared.query.Query.{Query}
 use Rattle.news_types.specs.declared.query.Query.TheVariants as query
-use Rattle.news_types.specs.declared.words.Format.{Format}
-use Rattle.news_types.specs.declared.words.Format.TheVariants.{Ninjs, Text7901}
+use Rattle.command_words.specs.declared.words.IngestFormat.{IngestFormat}
 use Rattle.news_types.specs.Books.{Book}
 use Rattle.news_types.specs.Doubt.{payloads}
 use Rattle.news_types.specs.Names.{Bytes}
@@ -30,12 +29,12 @@ use Rattle.world_laws.specs.Headline.{Headline}
 use Rattle.world_laws.specs.World.{World, Event, Reopens, happens, after}
 use Rattle.newsdesk_cli.specs.Archive.{IsArchive}
 use Rattle.newsdesk_cli.specs.Imports.{HasTakenTable, IsImportOf}
-use Rattle.newsdesk_cli.specs.Lists.{IsAudit, IsAsk, IsWhy}
+use Rattle.newsdesk_cli.specs.Lists.{IsAudit, IsAsk, IsDigest, IsLimits, IsWhy}
 use Rattle.newsdesk_cli.specs.Packages.{IsContents, HasTakenPackage, IsPackageOf}
 use Rattle.newsdesk_cli.specs.Standby.{ShipsOver}
 use Rattle.newsdesk_cli.specs.Command.{HasAnswered, HasReported, IsBatch, IsIngest, IsReportOf, HasDrained, IsDrain, IsCheck, IsPack, IsInit, IsMade}
 use Rattle.program_events.specs.Events.{Input, line_input}
-use Rattle.program_events.specs.Stories.{wire_input, item_input}
+use Rattle.program_events.specs.Stories.{ingest_input}
 use Rattle.program_events.specs.Leads.{IsBegunOf}
 use Rattle.program_events.specs.Imports.{ImportRunHappened}
 use Rattle.program_events.specs.Packages.{PackageRunHappened}
@@ -62,7 +61,7 @@ module _ {D S O C L : Type 0} (disk : DiskMeaning D) (clock : ClockMeaning C) (s
   pub data Did (log log' side side' : D) (i i' : S) (o o' : O) (c c' : C) (l l' : List L) (status : ℕ) : Type 0 where
     Init : (owner : Bytes) → IsInit disk sink owner log log' side side' o o' status → Did log log' side side' i i' o o' c c' l l' status
     Batch : IsBatch disk clock source sink log log' side side' i i' o o' c c' status → Did log log' side side' i i' o o' c c' l l' status
-    Ingest : (format : Format) (provider : Bytes) → IsIngest disk clock source sink log log' side side' i i' o o' c c' status format provider → Did log log' side side' i i' o o' c c' l l' status
+    Ingest : (format : IngestFormat) (provider : Bytes) → IsIngest disk clock source sink log log' side side' i i' o o' c c' status format provider → Did log log' side side' i i' o o' c c' l l' status
     Import : (caller : Bytes) → IsImportOf disk clock source sink log log' side side' i i' o o' c c' status caller → Did log log' side side' i i' o o' c c' l l' status
     Package : (caller : Bytes) (number : ℕ) → IsPackageOf disk clock source sink log log' side side' i i' o o' c c' status caller number → Did log log' side side' i i' o o' c c' l l' status
     Feed : (subscriber : Bytes) (after : ℕ) → IsReportOf disk clock sink log log' side side' o o' c c' status (feed_report_at subscriber after) → Did log log' side side' i i' o o' c c' l l' status
@@ -73,6 +72,8 @@ module _ {D S O C L : Type 0} (disk : DiskMeaning D) (clock : ClockMeaning C) (s
     Contents : (publication : ℕ) → IsContents disk sink publication log log' side side' o o' status → Did log log' side side' i i' o o' c c' l l' status
     Audit : (after : ℕ) → IsAudit disk sink after log log' side side' o o' status → Did log log' side side' i i' o o' c c' l l' status
     Ask : (entries : ℕ) → IsAsk disk source sink entries log log' side side' i i' o o' status → Did log log' side side' i i' o o' c c' l l' status
+    Digest : (entries : ℕ) → IsDigest disk sink entries log log' side side' o o' status → Did log log' side side' i i' o o' c c' l l' status
+    Limits : IsLimits disk sink log log' side side' o o' status → Did log log' side side' i i' o o' c c' l l' status
     Why : (publication : ℕ) (subscriber : Bytes) → IsWhy disk sink publication subscriber log log' side side' o o' status → Did log log' side side' i i' o o' c c' l l' status
     Ship : (name : Bytes) → ShipsOver disk sink name log log' side side' o o' status link l l' → Did log log' side side' i i' o o' c c' l l' status
     Pack : IsPack disk sink log log' side side' o o' status → Did log log' side side' i i' o o' c c' l l' status
@@ -122,6 +123,8 @@ module _ {D S O C L : Type 0} (disk : DiskMeaning D) (clock : ClockMeaning C) (s
   LeftByRun r (Contents publication did) files = LeftSince disk r.log' r.side' (disk.moment r.log) files
   LeftByRun r (Audit after did) files = LeftSince disk r.log' r.side' (disk.moment r.log) files
   LeftByRun r (Ask entries did) files = LeftSince disk r.log' r.side' (disk.moment r.log) files
+  LeftByRun r (Digest entries did) files = LeftSince disk r.log' r.side' (disk.moment r.log) files
+  LeftByRun r (Limits did) files = LeftSince disk r.log' r.side' (disk.moment r.log) files
   LeftByRun r (Why publication subscriber did) files = LeftSince disk r.log' r.side' (disk.moment r.log) files
   LeftByRun r (Ship name did) files = LeftSince disk r.log' r.side' (disk.moment r.log) files
   LeftByRun r (Pack did) files = LeftByPacking r did files
@@ -193,10 +196,8 @@ module _ {D S O C L : Type 0} (disk : DiskMeaning D) (clock : ClockMeaning C) (s
   abbrev pub AreOfRun : Writer → List Event → (r : Run) → Did r.log r.log' r.side r.side' r.input r.input' r.output r.output' r.clock_was r.clock_is r.links r.links' r.status → List Event → Type 0
   AreOfRun write before r (Batch (inr did)) events = AreOfGoing (Answers line_input r did) r write before events
   AreOfRun write before r (Batch (inl refused)) events = events ≡ before
-  AreOfRun write before r (Ingest Text7901 provider (inr did)) events = AreOfGoing (Answers (wire_input provider) r did) r write before events
-  AreOfRun write before r (Ingest Text7901 provider (inl refused)) events = events ≡ before
-  AreOfRun write before r (Ingest Ninjs provider (inr did)) events = AreOfGoing (Answers (item_input provider) r did) r write before events
-  AreOfRun write before r (Ingest Ninjs provider (inl refused)) events = events ≡ before
+  AreOfRun write before r (Ingest format provider (inr did)) events = AreOfGoing (Answers (ingest_input format provider) r did) r write before events
+  AreOfRun write before r (Ingest format provider (inl refused)) events = events ≡ before
   AreOfRun write before r (Import caller (inr did)) events = AreOfGoing (Takes caller r did) r write before events
   AreOfRun write before r (Import caller (inl refused)) events = events ≡ before
   AreOfRun write before r (Package caller number (inr did)) events = AreOfGoing (Publishes caller number r did) r write before events
@@ -213,6 +214,8 @@ module _ {D S O C L : Type 0} (disk : DiskMeaning D) (clock : ClockMeaning C) (s
   AreOfRun write before r (Contents publication did) events = events ≡ before
   AreOfRun write before r (Audit after did) events = events ≡ before
   AreOfRun write before r (Ask entries did) events = events ≡ before
+  AreOfRun write before r (Digest entries did) events = events ≡ before
+  AreOfRun write before r (Limits did) events = events ≡ before
   AreOfRun write before r (Why publication subscriber did) events = events ≡ before
   AreOfRun write before r (Ship name did) events = events ≡ before
   AreOfRun write before r (Pack did) events = events ≡ before

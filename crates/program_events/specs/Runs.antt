@@ -2,7 +2,6 @@
 use Rattle.std.specs.Prelude.{◌≡◌, ◌<◌, ℕ, List, [], ◌∷◌, ◌++◌, length, map, take, Option, Some, Result, Ok, Err}
 use Rattle.std.proofs.Common.{inl, inr}
 use Rattle.news_types.specs.declared.entry.Entry.{Entry}
-use Rattle.news_types.specs.declared.words.Format.TheVariants.{Ninjs, Text7901}
 use Rattle.news_types.specs.Books.{Book}
 use Rattle.news_types.specs.History.{History}
 use Rattle.news_types.specs.declared.query.Query.{Query}
@@ -40,7 +39,7 @@ use Rattle.program_events.specs.Drains.{DrainHappened}
 use Rattle.program_events.specs.Imports.{ImportRunHappened}
 use Rattle.program_events.specs.Packages.{PackageRunHappened}
 use Rattle.program_events.specs.Leads.{LeadsOn}
-use Rattle.program_events.specs.Stories.{wire_input, item_input}
+use Rattle.program_events.specs.Stories.{ingest_input}
 use Rattle.program_events.specs.Events.{Input, line_input, turn_events, turn_readings, world_texts, AreBegun, question_events}
 
 -- ---- the events of members, with the readings that were taken, and what was written of their answers
@@ -143,8 +142,7 @@ module _ {D S O C : Type 0} (disk : DiskMeaning D) (clock : ClockMeaning C) (sou
     -- what the words do is events; all else is no event
     abbrev pub AreEvents : (job : Option Job) → Does disk clock source sink link log log' side side' i i' o o' c c' l l' status job → Type 0
     AreEvents (Some Batch) (inr did) = AnswersAreEvents line_input did
-    AreEvents (Some (Ingest Text7901 provider)) (inr did) = AnswersAreEvents (wire_input provider) did
-    AreEvents (Some (Ingest Ninjs provider)) (inr did) = AnswersAreEvents (item_input provider) did
+    AreEvents (Some (Ingest format provider)) (inr did) = AnswersAreEvents (ingest_input format provider) did
     AreEvents (Some (Import caller)) (inr did) = GoesAsEvents disk log log' side side' status did.went (λ write w g D events. ImportRunHappened (pair_of disk) clock source sink caller did.went.room did.went.after c c' i i' o o' status write w g D events did.imported)
     AreEvents (Some (Package caller number)) (inr did) =
         GoesAsEvents disk log log' side side' status did.went (λ write w g D events. PackageRunHappened (pair_of disk) clock source sink caller number did.went.room did.went.after c c' i i' o o' status write w g D events did.published)

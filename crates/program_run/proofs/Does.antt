@@ -1,28 +1,31 @@
 -- What the words of a command do, by what was said of it before.
-use Rattle.std.proofs.Common.{◌≡◌, inl, inr, ℕ, [], Option, Some, None}
+use Rattle.std.proofs.Common.{◌≡◌, inl, inr, ℕ, ◌+◌, [], Option, Some, None, subst}
 use Rattle.news_types.specs.declared.query.Query.TheVariants as query
-use Rattle.news_types.specs.declared.words.Format.TheVariants.{Ninjs, Text7901}
 use Rattle.news_types.specs.History.{History}
 use Rattle.news_types.specs.Names.{Bytes}
 use Rattle.news_io.specs.Outside.{Meanings, Outside}
+use Rattle.news_room.specs.Log.{sizes}
 use Rattle.command_words.specs.declared.words.Job.{Job}
-use Rattle.command_words.specs.declared.words.Job.TheVariants.{Init, Batch, Ingest, Import, Package, Feed, Queue, Archive, Contents, Audit, Ask, Why, Drain, Receive, Ship, StandIn, Drill, Check, Pack}
+use Rattle.command_words.specs.declared.words.Job.TheVariants.{Init, Batch, Ingest, Import, Package, Feed, Queue, Archive, Contents, Audit, Ask, Digest, Limits, Why, Drain, Receive, Ship, StandIn, Drill, Check, Pack}
 use Rattle.newsdesk_cli.specs.Archive as archive
 use Rattle.newsdesk_cli.specs.Command as old
 use Rattle.newsdesk_cli.specs.Telling as telling
 use Rattle.list_runs.specs.Why.{why_line}
+use Rattle.list_marks.specs.Digest.{IsDigest}
+use Rattle.list_marks.specs.Limits.{limits_lines}
 use Rattle.package_rules.specs.Report.{contents_report}
 use Rattle.room_reports.specs.Texts.{feed_report_at, queue_report_at}
 use Rattle.room_reports.specs.Written.{IsWrittenOut}
 use Rattle.store_files.specs.declared.trouble.Trouble.TheVariants as trouble
 use Rattle.told_entries.specs.Entries.{audit}
-use Rattle.program_run.specs.Does.{Finds, Does, UsesLinks}
+use Rattle.program_run.specs.Does.{Finds, Digests, Does, UsesLinks}
 use Rattle.program_run.specs.Inputs.{newsroom_formats}
+use Rattle.program_run.specs.Opens.{size_of}
 use Rattle.program_run.specs.Telling.{IsAnswered, Unread}
 use Rattle.program_run.proofs.Asking.{is_asked}
 use Rattle.program_run.proofs.Drilled.{is_drilled}
 use Rattle.program_run.proofs.Importing.{import_is}
-use Rattle.program_run.proofs.InputArms.{batch_answers, wire_answers, item_answers}
+use Rattle.program_run.proofs.InputArms.{batch_answers, ingest_answers}
 use Rattle.program_run.proofs.Looked.{looked}
 use Rattle.program_run.proofs.Made.{is_made}
 use Rattle.program_run.proofs.Packaging.{package_is}
@@ -31,6 +34,7 @@ use Rattle.program_run.proofs.Pushing.{drain_does}
 use Rattle.program_run.proofs.Received.{is_received}
 use Rattle.program_run.proofs.Reporting.{report_is}
 use Rattle.program_run.proofs.Shipped.{is_shipped}
+use Rattle.program_run.proofs.Sizes.{size_same}
 use Rattle.program_run.proofs.StoodIn.{is_stood_in}
 use Rattle.program_run.proofs.Telling.{is_told, is_stopped, is_answered}
 
@@ -52,6 +56,11 @@ module _ {D S O C L : Type 0} (m : Meanings D S O C L) (before after : Outside D
   finds page asked list (inl told) = inl (told.0, told.1, is_told m.sink told.0 before.output after.output number told.2)
   finds page asked list (inr none) = inr (is_stopped m.sink [] before.output after.output number trouble.Memory none)
 
+  -- the digest of a list's first entries
+  digests : (entries : ℕ) (list : History) → IsDigest m.sink entries list before.output after.output number → Digests newsroom_formats m before after entries list number
+  digests entries list (inl fewer) = inl (fewer.fewer, is_stopped m.sink [] before.output after.output number trouble.WrongStore fewer.stopped)
+  digests entries list (inr told) = inr (told.enough, told.told)
+
   -- only `drain` and `ship` change the links
   pub does : (job : Option Job) → Did job → ((UsesLinks job → ⊥) → after.links ≡ before.links) → Does newsroom_formats m before after job number
   does None did links = record {
@@ -62,8 +71,7 @@ module _ {D S O C L : Type 0} (m : Meanings D S O C L) (before after : Outside D
   }
   does (Some (Init store)) did links = is_made m before after number store (unread did.0 (links (λ uses. uses))) did.1
   does (Some Batch) did links = batch_answers m before after number (links (λ uses. uses)) did
-  does (Some (Ingest Text7901 provider)) did links = wire_answers m before after number (links (λ uses. uses)) provider did
-  does (Some (Ingest Ninjs provider)) did links = item_answers m before after number (links (λ uses. uses)) provider did
+  does (Some (Ingest format provider)) did links = ingest_answers m before after number (links (λ uses. uses)) format provider did
   does (Some (Import caller)) did links = import_is m before after number caller (links (λ uses. uses)) did
   does (Some (Package caller request)) did links = package_is m before after number caller request (links (λ uses. uses)) did
   does (Some (Feed subscriber first)) did links = report_is m before after number (query.Feed subscriber first) (feed_report_at subscriber first) did.0 (links (λ uses. uses)) did.1
@@ -78,6 +86,13 @@ module _ {D S O C L : Type 0} (m : Meanings D S O C L) (before after : Outside D
       looked m before after number (unread did.0 (links (λ uses. uses))) (λ store list. IsWrittenOut m.sink (audit first list) before.output after.output number) (λ store list. IsWrittenOut m.sink (audit first list) before.output after.output number)
       (λ store list told. told) did.1
   does (Some (Ask entries)) did links = is_asked m before after number entries did.0 (links (λ uses. uses)) did.1
+  does (Some (Digest entries)) did links =
+      looked m before after number (unread did.0 (links (λ uses. uses))) (λ store list. IsDigest m.sink entries list before.output after.output number) (λ store list. Digests newsroom_formats m before after entries list number)
+      (λ store list told. digests entries list told) did.1
+  does (Some Limits) did links =
+      looked m before after number (unread did.0 (links (λ uses. uses))) (λ store list. IsWrittenOut m.sink (limits_lines list (65 + sizes list)) before.output after.output number)
+      (λ store list. IsWrittenOut m.sink (limits_lines list (size_of list)) before.output after.output number)
+      (λ store list told. subst (λ (n : ℕ). IsWrittenOut m.sink (limits_lines list n) before.output after.output number) (size_same list) told) did.1
   does (Some (Why publication subscriber)) did links =
       looked m before after number (unread did.0 (links (λ uses. uses))) (λ store list. IsWrittenOut m.sink (why_line list publication subscriber) before.output after.output number)
       (λ store list. IsWrittenOut m.sink (why_line list publication subscriber) before.output after.output number) (λ store list told. told) did.1

@@ -3,7 +3,8 @@ use Rattle.std.proofs.Common.{◌≡◌, ◌⊎◌, inl, inr, ℕ, Bool, true, L
 use Rattle.news_types.specs.Books.{Book}
 use Rattle.news_types.specs.Names.{Bytes}
 use Rattle.news_types.specs.declared.entry.Entry.{Entry}
-use Rattle.news_types.specs.declared.words.Format.TheVariants.{Ninjs, Text7901}
+use Rattle.command_words.specs.declared.words.IngestFormat.{IngestFormat}
+use Rattle.command_words.specs.declared.words.IngestFormat.TheVariants.{Wire, Item, AgencyWire, AgencyItems}
 use Rattle.news_types.specs.History.{History}
 use Rattle.news_io.specs.Outside.{Meanings, Outside, store_faults}
 use Rattle.line_run.specs.Life.{Meaning, Life, Took}
@@ -12,14 +13,14 @@ use Rattle.news_pair.specs.declared.pair.Pair.{Pair}
 use Rattle.news_room.specs.Stands.{Stands, in_doubt}
 use Rattle.news_room.specs.declared.room.Room.{Room}
 use Rattle.store_files.proofs.Holding.{calls_shut}
-use Rattle.wire_run.specs.Members.{of_found, of_item}
 use Rattle.room_runs.specs.Desk.{Hand, line_hand}
 use Rattle.room_runs.specs.Life.{life}
 use Rattle.room_runs.specs.Lines.{of_line}
 use Rattle.room_runs.specs.Members.{MembersAnswered}
-use Rattle.room_runs.specs.Wires.{wire_hand, of_incoming}
+use Rattle.room_runs.specs.Wires.{wire_hand}
 use Rattle.newsdesk_cli.specs.Command.{HasAnswered, IsBatch, IsIngest}
-use Rattle.program_run.specs.Inputs.{line_input, wire_input, item_input}
+use Rattle.newsdesk_cli.specs.Ingests.{answer_of}
+use Rattle.program_run.specs.Inputs.{line_input, ingest_kind}
 use Rattle.program_run.specs.Left.{AnyWriter, GoesOn}
 use Rattle.program_run.specs.Members.{Input, Reads, InputAnswered, AnswersAll}
 use Rattle.program_run.specs.Refused.{NotOpened}
@@ -30,7 +31,7 @@ use Rattle.program_run.proofs.Going.{Doubted, Went, goes_on}
 use Rattle.program_run.proofs.Lines.{line_means}
 use Rattle.program_run.proofs.Means.{Means}
 use Rattle.program_run.proofs.Refusing.{not_opened}
-use Rattle.program_run.proofs.Stories.{wire_means, item_means}
+use Rattle.program_run.proofs.Stories.{wire_means, item_means, message_means, told_means}
 
 module _ {D S O C L A X : Type 0} (m : Meanings D S O C L) (before after : Outside D S O C L) (status : ℕ) (hand : A → Hand (Pair D) C) (M : ℕ → Meaning Entry X) (input : Input X) (means : Means (M 65) input) where
   -- the old clause, of the machine that answers this input
@@ -113,12 +114,11 @@ module _ {D S O C L : Type 0} (m : Meanings D S O C L) (before after : Outside D
   batch_answers (inl not) = inl (not_opened m before after status not.why not.input_same not.clock_same links)
   batch_answers (inr did) = inr (input_goes_on m before after status line_hand of_line line_input line_means did)
 
-  pub wire_answers : (provider : Bytes) → IsIngest m.disk m.clock m.source m.sink before.log after.log before.side after.side before.input after.input before.output after.output before.clock after.clock status Text7901 provider
-      → AnswersInput (wire_input provider)
-  wire_answers provider (inl not) = inl (not_opened m before after status not.why not.input_same not.clock_same links)
-  wire_answers provider (inr did) = inr (input_goes_on m before after status wire_hand (λ start. of_found (of_incoming start provider)) (wire_input provider) (wire_means provider) did)
-
-  pub item_answers : (provider : Bytes) → IsIngest m.disk m.clock m.source m.sink before.log after.log before.side after.side before.input after.input before.output after.output before.clock after.clock status Ninjs provider
-      → AnswersInput (item_input provider)
-  item_answers provider (inl not) = inl (not_opened m before after status not.why not.input_same not.clock_same links)
-  item_answers provider (inr did) = inr (input_goes_on m before after status wire_hand (λ start. of_item (of_incoming start provider)) (item_input provider) (item_means provider) did)
+  pub ingest_answers : (format : IngestFormat) (provider : Bytes)
+      → IsIngest m.disk m.clock m.source m.sink before.log after.log before.side after.side before.input after.input before.output after.output before.clock after.clock status format provider
+      → AnswersInput (ingest_kind format provider).input
+  ingest_answers format provider (inl not) = inl (not_opened m before after status not.why not.input_same not.clock_same links)
+  ingest_answers Wire provider (inr did) = inr (input_goes_on m before after status wire_hand (answer_of Wire provider) (ingest_kind Wire provider).input (wire_means provider) did)
+  ingest_answers Item provider (inr did) = inr (input_goes_on m before after status wire_hand (answer_of Item provider) (ingest_kind Item provider).input (item_means provider) did)
+  ingest_answers AgencyWire provider (inr did) = inr (input_goes_on m before after status wire_hand (answer_of AgencyWire provider) (ingest_kind AgencyWire provider).input (message_means provider) did)
+  ingest_answers AgencyItems provider (inr did) = inr (input_goes_on m before after status wire_hand (answer_of AgencyItems provider) (ingest_kind AgencyItems provider).input (told_means provider) did)

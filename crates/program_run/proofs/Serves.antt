@@ -4,7 +4,7 @@ use Rattle.news_types.specs.Names.{Bytes}
 use Rattle.news_types.specs.History.{History}
 use Rattle.news_io.specs.Outside.{Meanings, Outside, FilesTell, read}
 use Rattle.command_words.specs.declared.words.Job.{Job}
-use Rattle.command_words.specs.declared.words.Job.TheVariants.{Init, Batch, Ingest, Import, Package, Feed, Queue, Archive, Contents, Audit, Ask, Why, Drain, Receive, Ship, StandIn, Drill, Check, Pack}
+use Rattle.command_words.specs.declared.words.Job.TheVariants.{Init, Batch, Ingest, Import, Package, Feed, Queue, Archive, Contents, Audit, Ask, Digest, Limits, Why, Drain, Receive, Ship, StandIn, Drill, Check, Pack}
 use Rattle.newsdesk_cli.specs.Command as old
 use Rattle.store_files.specs.Store as store
 use Rattle.program_run.specs.Does.{IsServed, Serves, ReceiverServes, StandbyServes, UsesLinks}
@@ -29,6 +29,8 @@ uses_links (Some (Archive page asked)) other = λ uses. uses
 uses_links (Some (Contents publication)) other = λ uses. uses
 uses_links (Some (Audit first)) other = λ uses. uses
 uses_links (Some (Ask entries)) other = λ uses. uses
+uses_links (Some (Digest entries)) other = λ uses. uses
+uses_links (Some Limits) other = λ uses. uses
 uses_links (Some (Why publication subscriber)) other = λ uses. uses
 uses_links (Some Drain) other = other
 uses_links (Some Check) other = λ uses. uses
@@ -68,6 +70,10 @@ module _ {D S O C L : Type 0} (m : Meanings D S O C L) (before after : Outside D
   serves (Some (Ask entries)) number for = λ tell id list long opens.
       let s = for tell.log tell.side id list long (old_opens id long (read m before) list opens) in
       record { own = s.own; whole = s.whole; failed = s.failed }
+  serves (Some (Digest entries)) number for = λ tell id list long opens.
+      let s = for tell.log tell.side id list long (old_opens id long (read m before) list opens) in
+      record { own = s.own; whole = s.whole; failed = s.failed }
+  serves (Some Limits) number for = serves_it Limits number for (λ list was. was)
   serves (Some (Why publication subscriber)) number for = serves_it (Why publication subscriber) number for (λ list was. was)
   serves (Some Drain) number for = serves_it Drain number for (λ list was. was)
   serves (Some (Ship name)) number for = serves_it (Ship name) number for (λ list was. was)
@@ -94,6 +100,8 @@ module _ {D S O C L : Type 0} (m : Meanings D S O C L) (before after : Outside D
   receives (Some (Contents publication)) number was = tt
   receives (Some (Audit first)) number was = tt
   receives (Some (Ask entries)) number was = tt
+  receives (Some (Digest entries)) number was = tt
+  receives (Some Limits) number was = tt
   receives (Some (Why publication subscriber)) number was = tt
   receives (Some Drain) number was = tt
   receives (Some Check) number was = tt
@@ -122,6 +130,8 @@ module _ {D S O C L : Type 0} (m : Meanings D S O C L) (before after : Outside D
   stands_in (Some (Contents publication)) number was = tt
   stands_in (Some (Audit first)) number was = tt
   stands_in (Some (Ask entries)) number was = tt
+  stands_in (Some (Digest entries)) number was = tt
+  stands_in (Some Limits) number was = tt
   stands_in (Some (Why publication subscriber)) number was = tt
   stands_in (Some Drain) number was = tt
   stands_in (Some Check) number was = tt

@@ -1,14 +1,13 @@
 -- What the words of a command do.
-use Rattle.std.specs.Prelude.{◌≡◌, ◌⊎◌, ◌<◌, ℕ, List, length, Option, Some, None}
+use Rattle.std.specs.Prelude.{◌≡◌, ◌⊎◌, ◌<◌, ◌≤◌, ℕ, List, length, Option, Some, None}
 use Rattle.news_types.specs.declared.query.Query.TheVariants as query
-use Rattle.news_types.specs.declared.words.Format.TheVariants.{Ninjs, Text7901}
 use Rattle.news_types.specs.Frames.{Frame}
 use Rattle.news_types.specs.History.{History}
 use Rattle.news_types.specs.Names.{Bytes}
 use Rattle.news_io.specs.Faults.{Rose}
 use Rattle.news_io.specs.Outside.{Meanings, Outside, FilesTell, read, store_faults}
 use Rattle.command_words.specs.declared.words.Job.{Job}
-use Rattle.command_words.specs.declared.words.Job.TheVariants.{Init, Batch, Ingest, Import, Package, Feed, Queue, Archive, Contents, Audit, Ask, Why, Drain, Receive, Ship, StandIn, Drill, Check, Pack}
+use Rattle.command_words.specs.declared.words.Job.TheVariants.{Init, Batch, Ingest, Import, Package, Feed, Queue, Archive, Contents, Audit, Ask, Digest, Limits, Why, Drain, Receive, Ship, StandIn, Drill, Check, Pack}
 use Rattle.receiver_files.specs.Log.{Gives}
 use Rattle.room_reports.specs.Written.{IsStopped}
 use Rattle.run_status.specs.declared.status.Status.TheVariants as status
@@ -37,7 +36,7 @@ pub record IsServed (before now number : ℕ) : Type 0 where
   pub whole : number ≡ 7 → ⊥
   pub failed : number ≡ 6 → Rose before now
 
--- so it is with `ask`, but that it refuses a list that has not so many entries
+-- so it is with `ask` and `digest`, but that each refuses a list that has not so many entries
 pub record IsAskServed (entries : ℕ) (list : History) (before now number : ℕ) : Type 0 where
   pub own : number ≡ 3 → length list < entries
   pub whole : number ≡ 7 → ⊥
@@ -71,6 +70,12 @@ module _ {D S O C L : Type 0} (f : Formats) (m : Meanings D S O C L) (before aft
       ((answer : Bytes) × f.archive_answer page asked list answer × IsTold m.sink answer before.output after.output number)
       ⊎ IsStopped m.sink status.Memory before.output after.output number
 
+  -- the digest of the first entries of the list, so many, was written; or it has not so many
+  abbrev pub Digests : ℕ → History → ℕ → Type 0
+  Digests entries list number =
+      ((length list < entries) × IsStopped m.sink status.WrongStore before.output after.output number)
+      ⊎ ((entries ≤ length list) × Writes (f.digest_line entries list) number)
+
   -- what is due was pushed, where publications are written as those of this store are
   abbrev pub Drains : ℕ → Type 0
   Drains number = NotOpened f.finders m before after number
@@ -81,8 +86,7 @@ module _ {D S O C L : Type 0} (f : Formats) (m : Meanings D S O C L) (before aft
   Does None number = IsUsage number
   Does (Some (Init store)) number = IsMade m before after number store
   Does (Some Batch) number = Answers f.lines number
-  Does (Some (Ingest Text7901 provider)) number = Answers (f.wire provider) number
-  Does (Some (Ingest Ninjs provider)) number = Answers (f.item provider) number
+  Does (Some (Ingest format provider)) number = Answers (f.ingest format provider) number
   Does (Some (Import caller)) number = Imported f m before after number caller
   Does (Some (Package caller request)) number = Published f m before after number caller request
   Does (Some (Feed subscriber first)) number =
@@ -94,6 +98,8 @@ module _ {D S O C L : Type 0} (f : Formats) (m : Meanings D S O C L) (before aft
   Does (Some (Audit first)) number =
       Looked f.finders m before after number (λ store list. Writes (f.audit first list) number)
   Does (Some (Ask entries)) number = Asked f m before after number entries
+  Does (Some (Digest entries)) number = Looked f.finders m before after number (λ store list. Digests entries list number)
+  Does (Some Limits) number = Looked f.finders m before after number (λ store list. Writes (f.limits list) number)
   Does (Some (Why publication subscriber)) number =
       Looked f.finders m before after number (λ store list. Writes (f.why_line publication subscriber list) number)
   Does (Some Drain) number = Drains number
@@ -118,6 +124,7 @@ module _ {D S O C L : Type 0} (m : Meanings D S O C L) (before after : Outside D
   Serves (Some (StandIn store)) number = Unit {0}
   Serves (Some (Drill stories seed)) number = Unit {0}
   Serves (Some (Ask entries)) number = ServesLists (λ list was now. IsAskServed entries list was now number)
+  Serves (Some (Digest entries)) number = ServesLists (λ list was now. IsAskServed entries list was now number)
   Serves (Some job) number = ServesLists (λ list was now. IsServed was now number)
 
   -- what `receive` answers on a file that is empty or holds the receiver's frames

@@ -9,6 +9,7 @@ use Rattle.news_types.specs.Outcome.{Answered}
 use Rattle.feed_reports.specs.declared.attempts.Attempted.{Attempted}
 use Rattle.package_members.specs.declared.member.Member.{Member}
 use Rattle.subscriber_import.specs.declared.line.Line.{Line}
+use Rattle.command_words.specs.declared.words.IngestFormat.{IngestFormat}
 use Rattle.program_run.specs.Damage.{Finders}
 use Rattle.program_run.specs.Members.{Input}
 
@@ -28,10 +29,9 @@ pub record Package : Type 0 where
   pub members : List Member
 
 pub record Formats : Type 1 where
-  -- the lines of a desk; the stories of a wire and the item of one, from a provider
+  -- the lines of a desk; and what a provider sends, in each format
   pub lines : Kind
-  pub wire : Bytes → Kind
-  pub item : Bytes → Kind
+  pub ingest : IngestFormat → Bytes → Kind
   -- what finds the damage in the payloads of files
   pub finders : Finders
   -- how publications are written in frames, for a store
@@ -49,6 +49,9 @@ pub record Formats : Type 1 where
   -- subscriber or not
   pub audit : ℕ → History → Bytes
   pub why_line : ℕ → Bytes → History → Bytes
+  -- of a list: the digest of its first entries, so many, and a line for each limit
+  pub digest_line : ℕ → History → Bytes
+  pub limits : History → Bytes
   -- what a line of a desk is answered at a list, where it may only ask
   pub question_answer : History → lines.Member → Bytes
   -- the records of a table behind its head, if it has one: what each asks for, if it is of its form; and the lines in

@@ -1,5 +1,5 @@
--- The formats of the newsroom: lines, the stories of a wire, one item, tables, packages, reports and answers.
-use Rattle.std.specs.Prelude.{ℕ, Bool, true, false, if◌then◌else◌, List, [], ◌∷◌, ◌++◌, length, map, Option, Some, None, Result, Ok, Err}
+-- The formats of the newsroom: lines, wires and items, tables, packages, reports and answers.
+use Rattle.std.specs.Prelude.{ℕ, Bool, true, false, if◌then◌else◌, List, [], ◌∷◌, ◌++◌, length, map, codes, Option, Some, None, Result, Ok, Err}
 use Rattle.news_types.specs.declared.denial.Denial.TheVariants.{UnknownThing}
 use Rattle.news_types.specs.declared.query.Query.{Query}
 use Rattle.news_types.specs.declared.query.Query.TheVariants as query
@@ -24,6 +24,18 @@ use Rattle.ninjs_text.specs.Item.{ninjs}
 use Rattle.ninjs_text.specs.declared.fault.NinjsFault.{NinjsFault}
 use Rattle.wire_run.specs.Decided.{decided}
 use Rattle.wire_run.specs.Members.{what_word, fault_word, fault_property}
+use Rattle.agency_wires.specs.declared.fault.WireFault.{WireFault}
+use Rattle.agency_wires.specs.declared.fault.WireFault.TheVariants as wire_fault
+use Rattle.agency_wires.specs.declared.found.Found as agency
+use Rattle.agency_wires.specs.declared.found.Found.TheVariants as cut
+use Rattle.agency_wires.specs.Messages.{messages}
+use Rattle.agency_wires.specs.Reading.{told}
+use Rattle.agency_items.specs.declared.fault.ItemFault.{ItemFault}
+use Rattle.agency_items.specs.Items.{items}
+use Rattle.agency_runs.specs.Decided as agency_wire
+use Rattle.agency_runs.specs.Members.{message_fault_bytes, too_long_bytes, item_word, item_property}
+use Rattle.command_words.specs.declared.words.IngestFormat.{IngestFormat}
+use Rattle.command_words.specs.declared.words.IngestFormat.TheVariants.{Wire, Item, AgencyWire, AgencyItems}
 use Rattle.world_laws.specs.World.{World, Event, Given, Requests, Ticks, Forges, Ingests}
 use Rattle.archive_search.specs.declared.told.Told.{Told}
 use Rattle.archive_search.specs.declared.told.Told.TheVariants as archive
@@ -43,12 +55,15 @@ use Rattle.room_reports.specs.Texts.{feed_report_at, queue_report_at}
 use Rattle.feed_reports.specs.Attempts.{attempt_line}
 use Rattle.told_entries.specs.Entries.{audit}
 use Rattle.list_runs.specs.Why.{why_line}
+use Rattle.list_marks.specs.Digest.{digest_line}
+use Rattle.list_marks.specs.Limits.{limits_lines}
 use Rattle.drill_plan.specs.Plan.{plan}
 use Rattle.feed_drill.specs.Requests.{given}
 use Rattle.program_run.specs.DrillReport.{drill_report}
 use Rattle.program_run.specs.Members.{Input, question_events}
 use Rattle.program_run.specs.Finding.{the_finders}
-use Rattle.program_run.specs.Formats.{Wanted, Package, Formats}
+use Rattle.program_run.specs.Opens.{size_of}
+use Rattle.program_run.specs.Formats.{Kind, Wanted, Package, Formats}
 
 -- the longest line, in bytes without its end
 abbrev pub LONGEST_LINE : ℕ
@@ -186,6 +201,50 @@ item_input provider = record {
   text = λ w r. story_text w (item_of r);
 }
 
+-- a message of an agency's wire: what came in that was read on this day, or the line that says what is wrong, which is the same on every day
+abbrev pub read_of : ℕ → Result Incoming WireFault → Result Incoming Bytes
+read_of place (Ok come) = Ok come
+read_of place (Err (wire_fault.Fault within is)) = Err (message_fault_bytes place within is)
+read_of place (Err wire_fault.Memory) = Err (fault_bytes (Some place) (codes "Memory") None)
+
+abbrev pub message_of : agency.Found → ℕ → Result Incoming Bytes
+message_of (cut.Message place bytes) day = read_of place (told day bytes)
+message_of (cut.TooLong place) day = Err (too_long_bytes place)
+
+-- the clock is read for each message
+abbrev pub message_readings : agency.Found → ℕ → List ℕ
+message_readings (cut.Message place bytes) at = at ∷ []
+message_readings (cut.TooLong place) at = []
+
+abbrev pub message_input : Bytes → Input agency.Found
+message_input provider = record {
+  decided = agency_wire.decided;
+  all = messages;
+  events = λ x at. story_events provider (message_of x at) at;
+  readings = message_readings;
+  text = λ w x. story_text w (message_of x 0);
+}
+
+-- the whole input is an item or a list of items, as agencies send them
+abbrev pub told_of : Result Incoming ItemFault → Result Incoming Bytes
+told_of (Ok come) = Ok come
+told_of (Err is) = Err (fault_bytes None (item_word is) (item_property is))
+
+abbrev pub told_input : Bytes → Input (Result Incoming ItemFault)
+told_input provider = record {
+  decided = λ bytes. [];
+  all = items;
+  events = λ r. story_events provider (told_of r);
+  readings = λ r. story_readings (told_of r);
+  text = λ w r. story_text w (told_of r);
+}
+
+abbrev pub ingest_kind : IngestFormat → Bytes → Kind
+ingest_kind Wire provider = record { Member = Found; input = wire_input provider }
+ingest_kind Item provider = record { Member = Result Incoming NinjsFault; input = item_input provider }
+ingest_kind AgencyWire provider = record { Member = agency.Found; input = message_input provider }
+ingest_kind AgencyItems provider = record { Member = Result Incoming ItemFault; input = told_input provider }
+
 -- ---- tables and packages
 
 abbrev pub wanted_in : Option fields.Wanted → Option Wanted
@@ -210,8 +269,7 @@ described (Err p) = Err (bad_bytes p ++ 10 ∷ [])
 abbrev pub newsroom_formats : Formats
 newsroom_formats = record {
   lines = record { Member = Line; input = line_input };
-  wire = λ provider. record { Member = Found; input = wire_input provider };
-  item = λ provider. record { Member = Result Incoming NinjsFault; input = item_input provider };
+  ingest = ingest_kind;
   finders = the_finders;
   writer = the_writer;
   feed_report = feed_report_at;
@@ -221,6 +279,8 @@ newsroom_formats = record {
   archive_answer = λ page query h bytes. AnswersQuery h page query bytes;
   contents_report = λ store n h. contents_report h store n;
   audit = audit;
+  digest_line = digest_line;
+  limits = λ h. limits_lines h (size_of h);
   why_line = λ publication subscriber h. why_line h publication subscriber;
   question_answer = λ h l. question_text h (asks_for l);
   table = table_of;

@@ -21,6 +21,9 @@ use Rattle.line_run.specs.declared.answering.Stopped.TheVariants as stopped
 use Rattle.desk_lines.specs.declared.property.LineProperty.{LineProperty}
 use Rattle.desk_answers.specs.Answers.{bad_bytes}
 use Rattle.entry_codec.specs.Spelling.{entry_bytes}
+use Rattle.agency_runs.specs.Members.{told_once}
+use Rattle.wire_run.specs.Members as wire
+use Rattle.news_room.specs.declared.room.Room.{Room}
 use Rattle.news_room.specs.Log.{sizes, size_of, Opens}
 use Rattle.news_room.specs.Beside.{Beside}
 use Rattle.news_room.specs.Stands.{Stands, LIMIT, limit_of, limit_for, numbers, in_doubt}
@@ -250,6 +253,60 @@ module _ {K C X A : Type 0} (hand : A → Hand K C) (keeper : KeeperMeaning K) (
     clock = subst (λ (o : Outcome Entry). Took B d d o.took) (sym means) (record { told = λ t. t; gave = λ t k. refl });
   }
   bad_step p (Err why) means stands is = subst (λ (w : Stopped). IsStep M B d d h x (Err w)) (sym is) (starved_step stands)
+
+-- ---- a member that is only told, behind a reading of the clock
+
+module _ {K C X A : Type 0} (hand : A → Hand K C) (keeper : KeeperMeaning K) (clock : ClockMeaning C) (s : Shelf) (M : Meaning Entry X) (d d' : A) (h : History) (x : X) (now : ℕ) (room_is : (hand d').room.now ≡ (hand d).room.now) where
+  abbrev R : Life Entry (Option (List Bytes)) A
+  R = life keeper clock hand s
+
+  abbrev Read : Type 0
+  Read = Ticked hand keeper clock s M d d' h x (now ∷ [])
+
+  waits : StandsAt keeper s (hand d) h → Read → Kept R d d' h h
+  waits stands ticked = record {
+    list = record {
+      room_stands = subst (λ (r : Room K). Stands keeper r (book s h)) (sym room_is) stands.room_stands;
+      uses = subst (λ (r : Room K). keeper.used r.keeper ≡ s.before + sizes h) (sym room_is) stands.uses;
+      same_provider = ticked.same_provider ∙ stands.same_provider;
+      same_room = ticked.same_room ∙ stands.same_room;
+      same_clock = ticked.same ∙ stands.same_clock;
+    };
+    time = subst (λ (r : Room K). Elapses (R.moment d) (moment_of s.told (keeper.moment r.keeper)) (R.left_since d) (λ t opened. (s.told ≡ true) × keeper.left_since r.keeper t opened) (Between Opens h h (R.doubts d) (λ e. (s.told ≡ true) × in_doubt keeper r e)))
+        (sym room_is)
+        (time_of s.told (keeper.moment (hand d).room.now.keeper) (keeper.moment (hand d).room.now.keeper) (keeper.left_since (hand d).room.now.keeper) (keeper.left_since (hand d).room.now.keeper) (Between Opens h h (R.doubts d) (R.doubts d))
+        (λ t. elapses_same _ _ _));
+  }
+
+  doubt_of : (e : Entry) → R.doubts d' e → R.doubts d e
+  doubt_of e p = (p.0, subst (λ (r : Room K). in_doubt keeper r e) room_is p.1)
+
+  -- there was no memory for an answer
+  pub starved_behind : (why : Stopped) → why ≡ stopped.Memory → (M h x now).took ≡ now ∷ [] → StandsAt keeper s (hand d) h → Read → IsStep M R d d' h x (Err why)
+  starved_behind why memory took stands ticked = record {
+    at = now;
+    part = [];
+    first = ((M h x now).adds, sym (append-nil (M h x now).adds));
+    unkept = λ by_keeper. absurd (memory_by_keeper why memory by_keeper);
+    full = λ full. absurd (memory≢full why memory full);
+    kept = waits stands ticked;
+    doubt = λ e p. inl (refl, doubt_of e p);
+    took = now ∷ [];
+    some = inr (sym took);
+    clock = record { told = ticked.told; gave = ticked.gave };
+  }
+
+  -- it is told, or there was no memory to tell it
+  pub told_step : (text : Bytes) (r : Result (Vec ℕ Global) Stopped) → M h x now ≡ told_once now text → StandsAt keeper s (hand d) h → Read → wire.IsText text r → IsStep M R d d' h x r
+  told_step text (Ok told) means stands ticked is = record {
+    at = now;
+    text_is = is ∙ sym (ap (λ (o : Outcome Entry). o.text) means);
+    fits = ap (λ (o : Outcome Entry). o.passes) means;
+    kept = subst (λ (o : Outcome Entry). Kept R d d' h (o.adds ++ h)) (sym means) (waits stands ticked);
+    calm = λ e p. (ap (λ (o : Outcome Entry). o.adds) means, doubt_of e p);
+    clock = subst (λ (o : Outcome Entry). Took R d d' o.took) (sym means) (record { told = ticked.told; gave = ticked.gave });
+  }
+  told_step text (Err why) means stands ticked is = starved_behind why is (ap (λ (o : Outcome Entry). o.took) means) stands ticked
 
 -- ---- counts of faults
 

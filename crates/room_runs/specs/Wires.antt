@@ -5,12 +5,15 @@ use Rattle.news_types.specs.Names.{Bytes}
 use Rattle.news_types.specs.Outcome.{ingest}
 use Rattle.news_types.specs.declared.entry.Entry.{Entry}
 use Rattle.news_types.specs.declared.story.Incoming.{Incoming}
-use Rattle.news_types.specs.declared.words.Format.{Format}
-use Rattle.news_types.specs.declared.words.Format.TheVariants.{Ninjs, Text7901}
 use Rattle.line_run.specs.Life.{Meaning}
 use Rattle.text7901.specs.Wire.{wire}
 use Rattle.wire_run.specs.Decided.{decided}
 use Rattle.wire_run.specs.Members.{of_found, of_item, one_item, no_item}
+use Rattle.agency_wires.specs.Messages.{messages}
+use Rattle.agency_items.specs.Items.{items}
+use Rattle.agency_runs.specs.Decided as agency
+use Rattle.agency_runs.specs.Members.{of_message, of_read}
+use Rattle.agency_runs.specs.Members as agency_run
 use Rattle.news_room.specs.declared.room.Room.{Room}
 use Rattle.room_runs.specs.Lines.{of_outcome}
 use Rattle.room_runs.specs.Desk.{Hand}
@@ -37,7 +40,10 @@ module _ {K C S O : Type 0} (keeper : KeeperMeaning K) (clock : ClockMeaning C) 
   abbrev pub ItemAnswered : Room K → Room K → C → C → S → S → O → O → Book → ℕ → ℕ → Type 0
   ItemAnswered = MembersAnswered keeper clock source sink wire_hand (λ start. of_item (of_incoming start provider)) no_item one_item
 
-  -- by the format of the input
-  abbrev pub IngestAnswered : Format → Room K → Room K → C → C → S → S → O → O → Book → ℕ → ℕ → Type 0
-  IngestAnswered Text7901 = WireAnswered
-  IngestAnswered Ninjs = ItemAnswered
+  -- the messages and faults of the wire that the input is, as agencies send them, were answered
+  abbrev pub AgencyWireAnswered : Room K → Room K → C → C → S → S → O → O → Book → ℕ → ℕ → Type 0
+  AgencyWireAnswered = MembersAnswered keeper clock source sink wire_hand (λ start. of_message (of_incoming start provider)) agency.decided messages
+
+  -- the item or the items that the input is, as agencies send them, were answered
+  abbrev pub AgencyItemsAnswered : Room K → Room K → C → C → S → S → O → O → Book → ℕ → ℕ → Type 0
+  AgencyItemsAnswered = MembersAnswered keeper clock source sink wire_hand (λ start. of_read (of_incoming start provider)) agency_run.no_item items

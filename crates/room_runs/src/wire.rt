@@ -1,9 +1,11 @@
-//! What answers the stories of a wire, or an item.
+//! What answers the stories of a wire, or items.
 ghost use Rattle.news_types.specs.declared.entry.Entry.{Entry};
 ghost use Rattle.news_types.specs.Names.{Bytes};
 ghost use Rattle.std.specs.Prelude.{List, Option};
 
 use crate::texts::request_answered;
+use agency_runs::{Receiving, Told, read_at, too_long};
+use agency_wires::Found;
 use line_run::Stopped;
 use news_io::{Clock, Keeper};
 use news_room::Room;
@@ -41,5 +43,40 @@ impl<K: Keeper, C: Clock> Ingesting for WireDesk<'_, K, C> {
         let now = self.clock.now();
         let answered = self.room.ingest(now, self.provider, incoming);
         request_answered(self.alloc, &answered)
+    }
+}
+
+impl<K: Keeper, C: Clock> Receiving for WireDesk<'_, K, C> {
+    ghost use Rattle.room_runs.specs.Desk.{Shelf};
+    ghost use Rattle.room_runs.specs.Life.{life};
+    ghost use Rattle.room_runs.specs.Wires.{of_incoming, wire_hand};
+    ghost use Rattle.agency_runs.specs.Members.{of_message};
+
+    ghost Entry = { Entry };
+
+    ghost Left = { Option (List Bytes) };
+
+    ghost Shelf = { Shelf };
+
+    ghost faults = { λ d. K.keeper.faults d.room.now.keeper };
+
+    ghost life = { λ s. life K.keeper C.clock wire_hand s };
+
+    ghost meaning = { λ s. of_message (of_incoming s.before s.provider) };
+
+    fn receive(&mut self, found: Found) -> Result<Vec<u8>, Stopped> {
+        let (at, bytes) = match found {
+            Found::Message { at, bytes } => (at, bytes),
+            Found::TooLong { at } => return too_long(self.alloc, at),
+        };
+        let now = self.clock.now();
+        match read_at(self.alloc, at, bytes.as_slice(), now) {
+            Ok(Told::Story(incoming)) => {
+                let answered = self.room.ingest(now, self.provider, incoming);
+                request_answered(self.alloc, &answered)
+            }
+            Ok(Told::Line(line)) => Ok(line),
+            Err(why) => Err(why),
+        }
     }
 }

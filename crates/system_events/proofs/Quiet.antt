@@ -32,9 +32,15 @@ use Rattle.whole_runs.specs.Packaging.{IsPackageRun}
 use Rattle.publish_workers.specs.Events.{sendings}
 use Rattle.publish_workers.specs.LinkDrains.{LinkDrain}
 use Rattle.publish_workers.specs.Turns.{Exchange, Unsent, Unread, Replied, Receipted, is_sent}
+use Rattle.agency_wires.specs.declared.fault.WireFault.{WireFault}
+use Rattle.agency_wires.specs.declared.found.Found.TheVariants as cut
+use Rattle.agency_wires.specs.Reading.{told}
+use Rattle.command_words.specs.declared.words.IngestFormat.{IngestFormat}
+use Rattle.command_words.specs.declared.words.IngestFormat.TheVariants.{Wire, Item, AgencyWire, AgencyItems}
+use Rattle.news_types.specs.declared.story.Incoming.{Incoming}
 use Rattle.world_laws.specs.World.{World, Event, Requests, Ticks, Sends}
 use Rattle.program_events.specs.Events.{Input, line_input, asks_for, events_if, events_of, question_events, turn_events, AreBegun}
-use Rattle.program_events.specs.Stories.{wire_input, item_input}
+use Rattle.program_events.specs.Stories.{wire_input, item_input, message_input, told_input, ingest_input, read_events}
 use Rattle.program_events.specs.Leads.{StopsAt, BeforeAttempt, IsBegunOf}
 use Rattle.program_events.specs.Imports.{wanted_events, row_events, AreStopped, AreOfTable, ImportRunHappened}
 use Rattle.program_events.specs.Packages.{AreOfPackage, PackageRunHappened}
@@ -83,13 +89,31 @@ IsQuiet {X = X} input = (x : X) (at : ℕ) (fate : Fate) → Quiet (input.events
 pub line_quiet : IsQuiet line_input
 line_quiet line at fate = read_quiet (asks_for line) at fate
 
-pub wire_quiet : (provider : Bytes) → IsQuiet (wire_input provider)
+wire_quiet : (provider : Bytes) → IsQuiet (wire_input provider)
 wire_quiet provider (found.Story come) at fate = (tt, tt)
 wire_quiet provider (found.Fault place is) at fate = tt
 
-pub item_quiet : (provider : Bytes) → IsQuiet (item_input provider)
+item_quiet : (provider : Bytes) → IsQuiet (item_input provider)
 item_quiet provider (Ok come) at fate = (tt, tt)
 item_quiet provider (Err is) at fate = tt
+
+message_read_quiet : (provider : Bytes) (r : Result Incoming WireFault) (at : ℕ) (fate : Fate) → Quiet (read_events provider r at fate)
+message_read_quiet provider (Ok come) at fate = (tt, tt)
+message_read_quiet provider (Err is) at fate = tt
+
+message_quiet : (provider : Bytes) → IsQuiet (message_input provider)
+message_quiet provider (cut.Message place bytes) at fate = message_read_quiet provider (told at bytes) at fate
+message_quiet provider (cut.TooLong place) at fate = tt
+
+told_quiet : (provider : Bytes) → IsQuiet (told_input provider)
+told_quiet provider (Ok come) at fate = (tt, tt)
+told_quiet provider (Err is) at fate = tt
+
+pub ingest_quiet : (format : IngestFormat) (provider : Bytes) → IsQuiet (ingest_input format provider)
+ingest_quiet Wire provider = wire_quiet provider
+ingest_quiet Item provider = item_quiet provider
+ingest_quiet AgencyWire provider = message_quiet provider
+ingest_quiet AgencyItems provider = told_quiet provider
 
 module _ {X : Type 0} (input : Input X) (quiet : IsQuiet input) where
   turns_quiet : (turns : List (Turn X)) → Quiet (turn_events input turns)

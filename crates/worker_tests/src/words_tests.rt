@@ -66,6 +66,6 @@ fn other_words_start_none(rt: HostRuntime) -> Result<(), Fail> {
 #[test]
 fn its_line_stands_behind_that_of_a_drain(rt: HostRuntime) {
     let texts = help_texts();
-    assert_eq!(rt; command_help("drain"), Some(texts[13]));
-    assert_eq!(rt; command_help("serve"), Some(texts[14]));
+    assert_eq!(rt; command_help("drain"), Some(texts[15]));
+    assert_eq!(rt; command_help("serve"), Some(texts[16]));
 }

@@ -1,4 +1,4 @@
-use Rattle.std.proofs.Common.{◌≡◌, ◌∙◌, codes, sym}
+use Rattle.std.proofs.Common.{◌≡◌, ◌∙◌, codes}
 use Rattle.command_words.proofs.Choices.{no_more}
 use Rattle.command_words.proofs.options.+options_behind.Goals as goal
 

@@ -234,3 +234,27 @@ returns-in-Why-clause-stands_in g c told told' = rw c.in-Why.is tt
 
 pub returns-in-Why-clause-links : goal.returns-in-Why-clause-links
 returns-in-Why-clause-links g c other = refl
+
+pub returns-in-Digest-clause-does : goal.returns-in-Digest-clause-does
+returns-in-Digest-clause-does g c = rw c.in-Digest.is (record { input_same = refl; clock_same = refl }, c.digest_list.ensures)
+
+pub returns-in-Digest-clause-receives : goal.returns-in-Digest-clause-receives
+returns-in-Digest-clause-receives g c told = rw c.in-Digest.is tt
+
+pub returns-in-Digest-clause-stands_in : goal.returns-in-Digest-clause-stands_in
+returns-in-Digest-clause-stands_in g c told told' = rw c.in-Digest.is tt
+
+pub returns-in-Digest-clause-links : goal.returns-in-Digest-clause-links
+returns-in-Digest-clause-links g c other = refl
+
+pub returns-in-Limits-clause-does : goal.returns-in-Limits-clause-does
+returns-in-Limits-clause-does g c = rw c.in-Limits.is (record { input_same = refl; clock_same = refl }, c.list_limits.ensures)
+
+pub returns-in-Limits-clause-receives : goal.returns-in-Limits-clause-receives
+returns-in-Limits-clause-receives g c told = rw c.in-Limits.is tt
+
+pub returns-in-Limits-clause-stands_in : goal.returns-in-Limits-clause-stands_in
+returns-in-Limits-clause-stands_in g c told told' = rw c.in-Limits.is tt
+
+pub returns-in-Limits-clause-links : goal.returns-in-Limits-clause-links
+returns-in-Limits-clause-links g c other = refl

@@ -1,0 +1,5 @@
+pub mod Decides
+pub mod FaultPlaces
+pub mod KeptItems
+pub mod Places
+pub mod Ready

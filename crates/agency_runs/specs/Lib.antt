@@ -1,0 +1,5 @@
+pub mod Decided
+pub mod Members
+pub mod Places
+pub mod Reading
+pub mod Told

@@ -1,0 +1,115 @@
+//! Why a command ended as it did, in words.
+
+use crate::usage::tell_usage;
+use command_words::{Options, read_serving};
+use news_types::Text;
+use run_status::Status;
+
+/// Says on standard error why a command ended with a status other than 0, and what to do. Of a key that is none its reader has said it.
+pub fn tell_reason<R: Eprint>(rt: &R, words: &[Text], options: Options, status: u8) {
+    if status == Status::Usage.number() {
+        if options.key.is_none() || read_serving(words).is_none() {
+            tell_usage(rt, words);
+        }
+        return;
+    }
+    let [command, store, ..] = words else {
+        return;
+    };
+    let store = store.as_str();
+    if let Some(why) = reason_of(command.as_str(), status) {
+        let _ = eprintln!(rt; "newsdesk: {store}: {why}");
+    }
+}
+
+/// What a status says of a command's store.
+fn reason_of(command: &str, status: u8) -> Option<&'static str> {
+    let number = |of: Status| of.number();
+    let reason = match status {
+        _ if status == number(Status::WrongStore) => wrong_store(command),
+        _ if status == number(Status::Input) => input(command),
+        _ if status == number(Status::Output) => {
+            "standard output could not be written; what was kept stays kept, the last answers may be lost"
+        }
+        _ if status == number(Status::Store) => {
+            "a file of the store could not be opened, locked, read or written: look at the disk and at its permissions"
+        }
+        _ if status == number(Status::Damaged { at: 0, found: None }) => {
+            "the log or its side is not of its form, at the place that the last line names: keep both files as they are, and see \"Status 7\" in docs/OPERATING.md"
+        }
+        _ if status == number(Status::Full) => {
+            "the next entry would pass the limit: see \"Limits\" in docs/OPERATING.md"
+        }
+        _ if status == number(Status::Memory) => {
+            "there was not enough memory; what was answered is kept: run it again with more"
+        }
+        _ if status == number(Status::Link) => link(command),
+        _ if status == number(Status::NoReceipt) => no_receipt(command),
+        _ if status == number(Status::TooLong) => too_long(command),
+        _ if status == number(Status::BadFrame { at: 0 }) => {
+            "the input goes on with what is no frame or record, at the place that the last line names"
+        }
+        _ if status == number(Status::BadHead) => {
+            "the table has no head: its first record has to be `subscriber,format,products,lag`"
+        }
+        _ if status == number(Status::Held) => {
+            "another program has the store: wait for it, or begin with --wait; `lsof` tells which it is"
+        }
+        _ => return None,
+    };
+    Some(reason)
+}
+
+/// What is wrong with a store that is not the one that a command wants.
+fn wrong_store(command: &str) -> &'static str {
+    match command {
+        "init" =>
+            "the store or its side is there already, and holds something: nothing was changed",
+        "ask" | "digest" => {
+            "no newsroom's log is there, or its list has fewer entries than ENTRIES: `newsdesk check` tells how many"
+        }
+        "receive" => "the file is a newsroom's or another receiver's",
+        "stand-in" => "the files are another store's, or a side is there without its log",
+        _ => {
+            "no newsroom's log is there: it is missing, empty or a receiver's, or its side is another store's: `newsdesk init STORE UUID` makes one"
+        }
+    }
+}
+
+/// What could not be read.
+fn input(command: &str) -> &'static str {
+    match command {
+        "serve" => "connections could not be taken at its address: look at who listens there",
+        _ => "standard input could not be read; what was answered is kept: send the rest again",
+    }
+}
+
+/// Who could not be reached.
+fn link(command: &str) -> &'static str {
+    match command {
+        "ship" => {
+            "the standby could not be reached or did not answer; what it said that it has is kept: run it again"
+        }
+        _ => {
+            "a receiver could not be reached or did not answer: its feed is tried again after its delay"
+        }
+    }
+}
+
+/// Who answered something else.
+fn no_receipt(command: &str) -> &'static str {
+    match command {
+        "ship" => "the standby answered with nothing that fits: look at what its `stand-in` said",
+        _ => "a receiver answered with no receipt: look at what listens at its address",
+    }
+}
+
+/// What was too long.
+fn too_long(command: &str) -> &'static str {
+    match command {
+        "import" => {
+            "the table has more than 4,194,304 bytes, and nothing was asked: cut it in two, each with its head"
+        }
+        _ => "the input is too long; what was answered is kept: send the rest by itself",
+    }
+}
