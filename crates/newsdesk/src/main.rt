@@ -74,7 +74,13 @@ fn main(rt: HostRuntime) -> ExitCode {
             (_, Err(Memory)) => Ending::untold(tell_status(&mut output, Status::Memory)),
             (None, Ok(link)) => start(&rt, alloc, &words, options, &mut output, link, shows),
             (Some(seconds), Ok(link)) => Ending::untold(ship_each(
-                &rt, alloc, &words, options, seconds, &mut output, link,
+                &rt,
+                alloc,
+                &words,
+                options,
+                seconds,
+                &mut output,
+                link,
             )),
         },
     };

@@ -64,39 +64,38 @@ pub fn tell_reason<R: Clock + Eprint>(rt: &R, words: &[Text], ending: Ending) {
 /// What a status says of a command's store.
 fn reason_of(command: &str, status: u8) -> Option<&'static str> {
     let number = |of: Status| of.number();
-    let reason = match status {
-        _ if status == number(Status::WrongStore) => wrong_store(command),
-        _ if status == number(Status::Input) => input(command),
-        _ if status == number(Status::Output) => {
-            "standard output could not be written; what was kept stays kept, the last answers may be lost"
-        }
-        _ if status == number(Status::Store) => {
-            "a file of the store could not be opened, locked, read or written: look at the disk and at its permissions"
-        }
-        _ if status == number(Status::Damaged { at: 0, found: None }) => {
-            "the log or its side is not of its form, at the place that the last line names: keep both files as they are, and see \"Status 7\" in docs/OPERATING.md"
-        }
+    match status {
+        _ if status == number(Status::WrongStore) => Some(wrong_store(command)),
+        _ if status == number(Status::Input) => Some(input(command)),
+        _ if status == number(Status::Output) => Some(
+            "standard output could not be written; what was kept stays kept, the last answers may be lost",
+        ),
+        _ if status == number(Status::Store) => Some(
+            "a file of the store could not be opened, locked, read or written: look at the disk and at its permissions",
+        ),
+        _ if status == number(Status::Damaged { at: 0, found: None }) => Some(
+            "the log or its side is not of its form, at the place that the last line names: keep both files as they are, and see \"Status 7\" in docs/OPERATING.md",
+        ),
         _ if status == number(Status::Full) => {
-            "the next entry would pass the limit: see \"Limits\" in docs/OPERATING.md"
+            Some("the next entry would pass the limit: see \"Limits\" in docs/OPERATING.md")
         }
         _ if status == number(Status::Memory) => {
-            "there was not enough memory; what was answered is kept: run it again with more"
+            Some("there was not enough memory; what was answered is kept: run it again with more")
         }
-        _ if status == number(Status::Link) => link(command),
-        _ if status == number(Status::NoReceipt) => no_receipt(command),
-        _ if status == number(Status::TooLong) => too_long(command),
-        _ if status == number(Status::BadFrame { at: 0 }) => {
-            "the input goes on with what is no frame or record, at the place that the last line names"
-        }
-        _ if status == number(Status::BadHead) => {
-            "the table has no head: its first record has to be `subscriber,format,products,lag`"
-        }
-        _ if status == number(Status::Held) => {
-            "another program has the store: wait for it, or begin with --wait; `lsof` tells which it is"
-        }
-        _ => return None,
-    };
-    Some(reason)
+        _ if status == number(Status::Link) => Some(link(command)),
+        _ if status == number(Status::NoReceipt) => Some(no_receipt(command)),
+        _ if status == number(Status::TooLong) => Some(too_long(command)),
+        _ if status == number(Status::BadFrame { at: 0 }) => Some(
+            "the input goes on with what is no frame or record, at the place that the last line names",
+        ),
+        _ if status == number(Status::BadHead) => Some(
+            "the table has no head: its first record has to be `subscriber,format,products,lag`",
+        ),
+        _ if status == number(Status::Held) => Some(
+            "another program has the store: wait for it, or begin with --wait; `lsof` tells which it is",
+        ),
+        _ => None,
+    }
 }
 
 /// What is wrong with a store that is not the one that a command wants.

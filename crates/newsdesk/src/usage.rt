@@ -98,7 +98,8 @@ impl Kind {
             Kind::Identifier => "a UUID, as 6ba7b810-9dad-11d1-80b4-00c04fd430c8",
             Kind::Format => "7901, ninjs, 7901-any or ninjs-any",
             Kind::Name => "1 to 32 of a to z, 0 to 9, `-` and `_`",
-            Kind::Number => "below 4294967296, in decimal, without a sign and without leading zeros",
+            Kind::Number =>
+                "below 4294967296, in decimal, without a sign and without leading zeros",
             Kind::Place => {
                 "below 281474976710656, in decimal, without a sign and without leading zeros"
             }
@@ -178,14 +179,36 @@ pub fn has_addresses(words: &[Text]) -> bool {
 #[derive(Clone, Copy)]
 enum Wrong<'a> {
     NoCommand,
-    NotACommand { word: &'a str },
-    BadOption { command: &'a str },
-    NotItsOption { command: &'a str },
-    Missing { command: &'a str, kind: Kind },
-    IsNot { command: &'a str, kind: Kind, word: &'a str },
-    NoAddress { command: &'a str, name: &'a str },
-    NameTwice { command: &'a str, name: &'a str },
-    OneTooMany { command: &'a str, word: &'a str },
+    NotACommand {
+        word: &'a str,
+    },
+    BadOption {
+        command: &'a str,
+    },
+    NotItsOption {
+        command: &'a str,
+    },
+    Missing {
+        command: &'a str,
+        kind: Kind,
+    },
+    IsNot {
+        command: &'a str,
+        kind: Kind,
+        word: &'a str,
+    },
+    NoAddress {
+        command: &'a str,
+        name: &'a str,
+    },
+    NameTwice {
+        command: &'a str,
+        name: &'a str,
+    },
+    OneTooMany {
+        command: &'a str,
+        word: &'a str,
+    },
 }
 
 impl Display for Wrong<'_> {
@@ -201,9 +224,18 @@ impl Display for Wrong<'_> {
             ),
             Wrong::NotItsOption { command } => write!(f, "{command}: an option is not for it"),
             Wrong::Missing { command, kind } => {
-                write!(f, "{command}: {} is missing: {}", kind.label(), kind.wanted())
+                write!(
+                    f,
+                    "{command}: {} is missing: {}",
+                    kind.label(),
+                    kind.wanted()
+                )
             }
-            Wrong::IsNot { command, kind, word } => write!(
+            Wrong::IsNot {
+                command,
+                kind,
+                word,
+            } => write!(
                 f,
                 "{command}: `{word}` is not {}: {}",
                 kind.label(),
@@ -259,7 +291,11 @@ fn wrong_behind<'a>(command: &'a str, form: &Form, words: &'a [Text]) -> Wrong<'
         };
         let word = word.as_str();
         if !kind.takes(word) {
-            return Wrong::IsNot { command, kind, word };
+            return Wrong::IsNot {
+                command,
+                kind,
+                word,
+            };
         }
         rest = behind;
     }
