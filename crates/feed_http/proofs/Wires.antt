@@ -15,6 +15,8 @@ use Rattle.desk_routes.specs.declared.ask.RoomAsk.{RoomAsk}
 use Rattle.desk_routes.specs.declared.ask.WireAsk.{WireAsk}
 use Rattle.desk_routes.specs.declared.ask.Refusal.{Refusal}
 use Rattle.desk_routes.specs.declared.response.Response.{Response}
+use Rattle.desk_routes.specs.declared.response.Notice.TheVariants.{NoMemory}
+use Rattle.desk_routes.specs.Responses.{notice_response}
 use Rattle.feed_http.specs.declared.answers.HttpAnswer.{HttpAnswer}
 use Rattle.feed_http.specs.declared.wire.Came.{Came}
 use Rattle.feed_http.specs.Turn.{IsToldAs}
@@ -46,12 +48,12 @@ each_push P (y ∷ xs) x all is = (all.0, each_push P xs x all.1 is)
 
 module _ {A C : Type 0} (turn : A → ℕ → Result RoomAsk Refusal → HttpAnswer → A → Type 0) (clock : ClockMeaning C) where
   -- no member has its row yet
-  pub has_none : (room : A) (c : C) (caller provider : Bytes) (members left : List BodyMember) → left ≡ members → HasRows turn clock room room c c caller provider members left [] None
-  has_none room c caller provider members left same = record {
+  pub has_none : (room : A) (c : C) (caller provider : Bytes) (members left : List BodyMember) (texts : List Bytes) → left ≡ members → texts ≡ [] → HasRows turn clock room room c c caller provider members left texts None
+  has_none room c caller provider members left texts same none = record {
     rows = [];
     each = tt;
     members_are = sym same;
-    texts_are = refl;
+    texts_are = none;
     turned = refl;
     stop_is = refl;
     clock_on = λ h. h;
@@ -145,3 +147,34 @@ module _ {A C : Type 0} (turn : A → ℕ → Result RoomAsk Refusal → HttpAns
       → IsEndedAs texts ending response
       → AnswersWire turn clock room mid c c' wire (record { response = response; stop = stop })
   starved_wire {stop = stop} wire reading ending response has ends on gave told = cut_wire wire reading [] ending response stop has ends refl on gave told (or_none stop)
+
+  -- ---- as the rows are read from a list of what is left
+
+  module _ (room mid new : A) (c cmid c' : C) (wire : WireAsk) (rest left : List BodyMember) (member : BodyMember) (texts : List Bytes) (stop stop' : Option ℕ) (reading : ℕ) (came : Came) where
+    abbrev Has : Type 0
+    Has = HasRows turn clock room mid c cmid wire.caller wire.provider wire.members rest texts stop
+
+    abbrev Came_to : Type 0
+    Came_to = AnswersMember turn mid new wire.caller wire.provider reading member came
+
+    next_is : Has → rest ≡ member ∷ left → HasRows turn clock room mid c cmid wire.caller wire.provider wire.members (member ∷ left) texts stop
+    next_is has is = subst (λ (l : List BodyMember). HasRows turn clock room mid c cmid wire.caller wire.provider wire.members l texts stop) is has
+
+    pub row_put : Has → rest ≡ member ∷ left → (answers : Came_to) → (row : Vec ℕ) → came.row ≡ Ok row → (clock.tells cmid → clock.tells c') → (clock.tells cmid → Gave (clock.ahead cmid) (reading ∷ []) (clock.ahead c'))
+        → (texts' : List Bytes) → texts' ≡ texts ++ row.items ∷ [] → stop' ≡ option_or stop came.stop → HasRows turn clock room new c c' wire.caller wire.provider wire.members left texts' stop'
+    row_put has is answers row came_row on gave texts' texts_are stop_is =
+        let r : Row = record { member = member; reading = reading; turns = answers.turns; text = row.items } in
+        let more : HasRows turn clock room new c c' wire.caller wire.provider wire.members left (texts ++ row.items ∷ []) (option_or stop (first_stop answers.turns)) =
+            has_more r (next_is has is) (row_came row answers came_row) answers.turned on gave in
+        let same_stop : stop' ≡ option_or stop (first_stop answers.turns) = stop_is ∙ ap (λ (s : Option ℕ). option_or stop s) answers.stop in
+        subst (λ (ts : List Bytes). HasRows turn clock room new c c' wire.caller wire.provider wire.members left ts stop') (sym texts_are)
+        (subst (λ (s : Option ℕ). HasRows turn clock room new c c' wire.caller wire.provider wire.members left (texts ++ row.items ∷ []) s) (sym same_stop) more)
+
+    pub row_ends : Has → rest ≡ member ∷ left → (answers : Came_to) → (ending response : Response) → came.row ≡ Err ending → (clock.tells cmid → clock.tells c') → (clock.tells cmid → Gave (clock.ahead cmid) (reading ∷ []) (clock.ahead c'))
+        → IsEndedAs texts ending response → stop' ≡ option_or stop came.stop → AnswersWire turn clock room new c c' wire (record { response = response; stop = stop' })
+    row_ends has is answers ending response came_row on gave told stop_is =
+        cut_wire wire reading answers.turns ending response stop' (next_is has is) (end_came ending answers came_row) answers.turned on gave told (stop_is ∙ ap (λ (s : Option ℕ). option_or stop s) answers.stop)
+
+    pub row_starves : Has → rest ≡ member ∷ left → (ending response : Response) → ending ≡ notice_response NoMemory → (clock.tells cmid → clock.tells c') → (clock.tells cmid → Gave (clock.ahead cmid) (reading ∷ []) (clock.ahead c'))
+        → IsEndedAs texts ending response → AnswersWire turn clock room mid c c' wire (record { response = response; stop = stop })
+    row_starves has is ending response none on gave told = starved_wire wire reading ending response (next_is has is) (inr (refl, none)) on gave told

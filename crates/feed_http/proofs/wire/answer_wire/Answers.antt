@@ -1,10 +1,8 @@
-use Rattle.std.proofs.Common.{◌≡◌, [], ◌∷◌, List, refl, sym, ap, ◌∙◌, subst, inr, arith, All}
+use Rattle.std.proofs.Common.{◌≡◌, [], ◌∷◌, ◌++◌, List, map, refl, sym, ap, ◌∙◌, arith}
 use Rattle.std.proofs.lemmas.List.{nil_from_length, map_push}
 use Rattle.std.proofs.lemmas.List.Elements.{All-head, All-rest, All-same}
-use Rattle.wire_bodies.specs.declared.member.BodyMember.{BodyMember}
 use Rattle.wire_bodies.specs.Bodies.{FitsMember}
-use Rattle.feed_http.specs.Serving.{HasRows}
-use Rattle.feed_http.proofs.Wires.{has_none, has_more, row_came, end_came, whole_wire, cut_wire, starved_wire}
+use Rattle.feed_http.proofs.Wires.{has_none, row_put, row_ends, row_starves, whole_wire}
 use Rattle.feed_http.proofs.wire.answer_wire.Goals as goal
 
 pub loop-member-init : goal.loop-member-init
@@ -13,5 +11,8 @@ loop-member-init g c =
     record {
       ready = c.requires.ready;
       fits = All-same FitsMember _ _ rest c.requires.fits;
-      has = ?;
+      has = has_none g.A.Answers.turn g.C.Clock.clock c.args.room.now c.args.clock.now c.args.wire.caller c.args.wire.provider c.args.wire.members _ _ rest (ap (λ l. map (λ row. row.items) l) c.new-rows.ensures.items);
     }
+
+pub answer_member-came-requires-clause-fits : goal.answer_member-came-requires-clause-fits
+answer_member-came-requires-clause-fits g c = All-head FitsMember _ _ (All-same FitsMember _ _ (sym c.in-Some.ensures.steps.0) c.loop-member.invariant.fits)
