@@ -32,7 +32,6 @@ STORE = "6ba7b810-9dad-11d1-80b4-00c04fd430c8"
 LIMIT = 60
 # what a command that reads alone says of a log whose base a packing left to be put right
 LISTENS = rb"\S+ newsdesk: listening at 127\.0\.0\.1:\d+: ready\n"
-CUT_SHORT = b"newsdesk: the last packing was cut short: `newsdesk pack STORE` puts the log right\n"
 # what part of the inputs is of each kind
 SHARES = {"lines": 0.6, "wires": 0.25, "items": 0.06, "http": 0.06, "serve": 0.02, "frames": 0.01}
 # how many inputs a round has
@@ -101,6 +100,12 @@ SETUP = (
 # ---- runs of the program
 
 
+def is_reason(status, errors):
+    """Whether a run that ended with this status may have said this on standard error: a reason and the form of its command, or nothing."""
+    lines = errors.splitlines(keepends=True)
+    return not lines or (status != 0 and all(it.startswith((b"newsdesk: ", b"usage: newsdesk ")) and it.endswith(b"\n") for it in lines))
+
+
 def run(program, words, folder, given=b""):
     """The status and the output of a run that ended as one may end."""
     name = words[0] if words else os.path.basename(program)
@@ -110,7 +115,7 @@ def run(program, words, folder, given=b""):
         raise Finding(f"{name} had not ended after {LIMIT} seconds", input=given) from None
     if done.returncode not in range(17):
         raise Finding(f"{name} ended with status {done.returncode}", input=given, output=done.stdout, errors=done.stderr)
-    if done.stderr and (done.returncode, done.stderr) != (6, CUT_SHORT):
+    if not is_reason(done.returncode, done.stderr):
         raise Finding(f"{name} wrote to standard error", input=given, errors=done.stderr)
     return done.returncode, done.stdout
 

@@ -1,4 +1,4 @@
--- The place of a fault lies within its message, or at most one byte behind it.
+-- The place of a fault lies within its message, at the byte that ends it, or one further.
 use Rattle.std.proofs.Common.{◌≡◌, inl, inr, ℕ, ◌+◌, ◌≤◌, Bool, true, false, not, if◌then◌else◌, List, [], ◌∷◌, length, Option, Some, None, Result, Ok, Err, subst, arith}
 use Rattle.std.proofs.lemmas.Bool.{cases_eq, eq-eqb, ne_eqb}
 use Rattle.news_types.specs.declared.story.Incoming.{Incoming}

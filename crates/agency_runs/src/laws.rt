@@ -10,7 +10,7 @@ pub fn decided_law()
     ensures { DecidedIsMost }
 {}
 
-/// The place of a fault lies within its message, or at most one byte behind it.
+/// The place of a fault lies within its message, at the byte that ends it, or one further.
 pub fn place_law()
     ensures { (day : ℕ) (bytes : List ℕ) (within : ℕ) (what : What) → told day bytes ≡ Err (fault.Fault within what) → within ≤ length bytes + 1 }
 {}

@@ -109,7 +109,7 @@ or a question, as
 Exit status: 0 all was answered, 2 usage, 3 wrong store, 4 read fault, 5 write fault, 6 store fault,
 7 damaged log or side, 8 log or side full, 9 out of memory, 10 link fault, 11 no receipt or no reply of a standby, 12 input too
 long, 13 no frame or no record, 14 no head of a table, 15 another program has the store. A status other than 0 and 5 is written
-to the output too, as {\"status\":7} with the place of the damage.
+to the output too, as {\"status\":7} with the place of the damage. Standard error says why, and what to do.
 ";
 
 /// How the program is used, for `--help`: texts, to be written one behind the other. Each command has a line.

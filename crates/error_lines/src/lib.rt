@@ -1,8 +1,8 @@
-//! What failed and why, as lines on standard error in one form: `MOMENT newsdesk: WHAT: WHY`.
+//! What failed and why, as lines on standard error in one form: `newsdesk: WHAT: WHY`, of a server behind the moment.
 #![tactic(auto)]
 
 mod line;
 mod rate;
 
-pub use line::tell;
+pub use line::{say, tell};
 pub use rate::Rate;

@@ -75,3 +75,11 @@ pub fn tell<R: Clock + Eprint, D: Display>(rt: &R, what: &str, whom: &str, why: 
     );
     let _ = rt.eprint(line.whole());
 }
+
+/// Says on standard error what failed and why: `newsdesk: LINE`. A line has at most 1,000 bytes and is written by one call; a control
+/// character in it is a space. Where it cannot be written, nothing is said.
+pub fn say<R: Eprint, D: Display>(rt: &R, line: &D) {
+    let mut whole = Line::new();
+    let _ = write!(whole, "newsdesk: {line}");
+    let _ = rt.eprint(whole.whole());
+}

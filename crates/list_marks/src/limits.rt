@@ -17,8 +17,8 @@ use std::fmt::Write;
 
 /// Writes a line for each limit of the store of a room, with how much of it is used, and gives the status.
 ///
-/// It is 0 where all lines were written and have passed on, 5 where the output failed, and 9 where there was no memory, and then
-/// no line was written. Nothing is changed.
+/// It is 0 where all lines were written and have passed on, 5 where the output failed, and 9 where there was no memory, with the
+/// line of that status alone. Nothing is changed.
 pub fn tell_limits<O: Sink, K: Keeper>(alloc: Global, output: &mut O, room: &Room<K>) -> u8
     requires { SomeBook K.keeper room.now }
     ensures { (b : Book) → Stands K.keeper room.now b → IsWrittenOut O.sink (limits_lines b.list (K.keeper.used room.now.keeper)) output.old output.new result }

@@ -16,7 +16,7 @@ mod usage;
 
 use crate::descriptors::hold_descriptors;
 use crate::key::read_key;
-use crate::reasons::tell_reason;
+use crate::reasons::{Ending, tell_reason};
 use crate::shipping::ship_each;
 use crate::store::{Keeping, keeping_of, open_files};
 use crate::usage::{has_addresses, tell_usage};
@@ -62,22 +62,25 @@ fn main(rt: HostRuntime) -> ExitCode {
         tell_usage(&rt, &words);
         return ExitCode::from(tell_status(&mut output, Status::Usage));
     };
-    let status = match read_serving(&words) {
+    let ending = match read_serving(&words) {
         Some(serving) => match server_of(&rt, alloc, &words, options, key, serving) {
-            Ok(setup) => run_serve(&rt, alloc, setup, &mut output).status.number(),
-            Err(status) => tell_status(&mut output, status),
+            Ok(setup) => Ending::untold(run_serve(&rt, alloc, setup, &mut output).status.number()),
+            Err(NoServer { status, is_told }) => Ending {
+                status: tell_status(&mut output, status),
+                is_told,
+            },
         },
         None => match (options.every, link_to(&rt, alloc, linked_by(&words))) {
-            (_, Err(Memory)) => tell_status(&mut output, Status::Memory),
+            (_, Err(Memory)) => Ending::untold(tell_status(&mut output, Status::Memory)),
             (None, Ok(link)) => start(&rt, alloc, &words, options, &mut output, link, shows),
-            (Some(seconds), Ok(link)) => {
-                ship_each(&rt, alloc, &words, options, seconds, &mut output, link)
-            }
+            (Some(seconds), Ok(link)) => Ending::untold(ship_each(
+                &rt, alloc, &words, options, seconds, &mut output, link,
+            )),
         },
     };
-    tell_reason(&rt, &words, options, status);
+    tell_reason(&rt, &words, ending);
     drop(held);
-    ExitCode::from(status)
+    ExitCode::from(ending.status)
 }
 
 /// Takes the options out of the words, and gives them with the FILE of `--key`; nothing where they are none.
@@ -145,32 +148,39 @@ fn start<
     output: &mut O,
     link: TcpLink<R>,
     shows: bool,
-) -> u8 {
-    if words.len() == 1 {
-        match words[0].as_str() {
-            "--help" => return say(output, &help_texts()),
-            "--version" => return say(output, &[version_text()]),
-            _ => {}
-        }
-    }
-    if words.len() == 2 && words[1].as_str() == "--help" {
-        if let Some(line) = command_help(words[0].as_str()) {
-            return say(output, &[line]);
-        }
+) -> Ending {
+    if let Some(status) = tell_program(words, output) {
+        return Ending::untold(status);
     }
     let Some(job) = read_words(words) else {
-        return tell_status(output, Status::Usage);
+        return Ending::untold(tell_status(output, Status::Usage));
     };
     let keeping = keeping_of(job);
     if options.key.is_some() || !keeping.allows(options) {
-        return tell_status(output, Status::Usage);
+        return Ending::untold(tell_status(output, Status::Usage));
     }
     match open_files(rt, alloc, words, keeping, options) {
         Ok((log, side)) => match run_words(rt, alloc, words, output, log, side, link, shows) {
-            Ok(status) => status,
-            Err(Memory) => tell_status(output, Status::Memory),
+            Ok(ending) => ending,
+            Err(Memory) => Ending::untold(tell_status(output, Status::Memory)),
         },
-        Err(status) => tell_status(output, status),
+        Err(status) => Ending::untold(tell_status(output, status)),
+    }
+}
+
+/// Writes what the program is, where the words ask for that, and gives the status.
+fn tell_program<O: Sink>(words: &[Text], output: &mut O) -> Option<u8> {
+    match words {
+        [word] => match word.as_str() {
+            "--help" => Some(say(output, &help_texts())),
+            "--version" => Some(say(output, &[version_text()])),
+            _ => None,
+        },
+        [command, word] if word.as_str() == "--help" => {
+            let line = command_help(command.as_str())?;
+            Some(say(output, &[line]))
+        }
+        _ => None,
     }
 }
 
@@ -220,7 +230,7 @@ fn run_words<
     side: FileDisk<R>,
     link: TcpLink<R>,
     shows: bool,
-) -> Result<u8, Memory> {
+) -> Result<Ending, Memory> {
     let mut input = Watched::new(
         StdSource::new(alloc, rt.reader())?,
         meter(rt, shows, Content::Lines)?,
@@ -240,12 +250,13 @@ fn run_words<
     if log.has_shown() || input.has_shown() || clock.has_shown() {
         let _ = eprintln!(rt);
     }
-    if log.inner.has_refused_write() {
+    let is_told = log.inner.has_refused_write();
+    if is_told {
         let _ = eprintln!(rt;
             "newsdesk: the last packing was cut short: `newsdesk pack STORE` puts the log right"
         );
     }
-    Ok(status)
+    Ok(Ending { status, is_told })
 }
 
 /// A file of the store of a server, whose failures are told.
@@ -253,6 +264,39 @@ type Spoken<R> = SpokenDisk<FileDisk<R>, R>;
 
 /// What a server over real files and connections starts with.
 type Newsdesk<R> = Setup<Pair<Spoken<R>>, StdClock<R>, TcpDoor<R>, SpokenLink<R>>;
+
+/// Why there is no server.
+#[derive(Clone, Copy)]
+struct NoServer {
+    status: Status,
+    /// Whether standard error has said why.
+    is_told: bool,
+}
+
+impl NoServer {
+    /// With this status, of which nothing was said.
+    fn untold(status: Status) -> NoServer {
+        NoServer {
+            status,
+            is_told: false,
+        }
+    }
+}
+
+/// The key in this file. Where there is none, standard error has said why.
+fn key_of<R: Files<File = File> + Clock + Eprint>(
+    rt: &R,
+    alloc: Global,
+    file: &Text,
+) -> Result<Text, NoServer> {
+    match read_key(rt, alloc, file.as_str()) {
+        Ok(key) => Ok(key),
+        Err(status) => Err(NoServer {
+            status,
+            is_told: status != Status::Memory,
+        }),
+    }
+}
 
 /// The room of the store that the words name, with what its server needs beside it; or the status that says why there is none.
 fn server_of<
@@ -269,30 +313,33 @@ fn server_of<
     options: Options,
     key: Option<Text>,
     serving: Serving<'_>,
-) -> Result<Newsdesk<R>, Status>
+) -> Result<Newsdesk<R>, NoServer>
     ensures stands { IfOk result (λ setup. SomeBook (pair_of (spoken_disk file_disk)) setup.room) }
     ensures clocks { IfOk result (λ setup. vec_len setup.clocks ≡ vec_len setup.links + 1) }
 {
     if options.every.is_some() || !Keeping::Writes.allows(options) {
-        return Err(Status::Usage);
+        return Err(NoServer::untold(Status::Usage));
     }
     let key = match key {
-        Some(file) => Some(read_key(rt, alloc, file.as_str())?),
+        Some(file) => Some(key_of(rt, alloc, &file)?),
         None => None,
     };
-    let (log, side) = open_files(rt, alloc, words, Keeping::Writes, options)?;
+    let (log, side) = match open_files(rt, alloc, words, Keeping::Writes, options) {
+        Ok(files) => files,
+        Err(status) => return Err(NoServer::untold(status)),
+    };
     let (Ok(log), Ok(side)) = (
         spoken(rt, log, StoreFile::Log),
         spoken(rt, side, StoreFile::Side),
     ) else {
-        return Err(Status::Memory);
+        return Err(NoServer::untold(Status::Memory));
     };
     let room = match open_store(alloc, log, side) {
         Ok(room) => room,
-        Err((status, _, _)) => return Err(status),
+        Err((status, _, _)) => return Err(NoServer::untold(status)),
     };
     let Ok((door, clocks, links)) = outside_of(rt, alloc, key, serving) else {
-        return Err(Status::Memory);
+        return Err(NoServer::untold(Status::Memory));
     };
     Ok(Setup {
         room,

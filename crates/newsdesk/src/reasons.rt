@@ -1,24 +1,63 @@
 //! Why a command ended as it did, in words.
 
 use crate::usage::tell_usage;
-use command_words::{Options, read_serving};
+use error_lines::{say, tell};
 use news_types::Text;
 use run_status::Status;
+use std::fmt::{self, Display, Formatter, Write};
+use std::time::Clock;
 
-/// Says on standard error why a command ended with a status other than 0, and what to do. Of a key that is none its reader has said it.
-pub fn tell_reason<R: Eprint>(rt: &R, words: &[Text], options: Options, status: u8) {
-    if status == Status::Usage.number() {
-        if options.key.is_none() || read_serving(words).is_none() {
-            tell_usage(rt, words);
+/// How a command ended.
+#[derive(Clone, Copy)]
+pub struct Ending {
+    pub status: u8,
+    /// Whether standard error has said why.
+    pub is_told: bool,
+}
+
+impl Ending {
+    /// With this status, of which nothing was said.
+    pub fn untold(status: u8) -> Ending {
+        Ending {
+            status,
+            is_told: false,
         }
+    }
+}
+
+/// What ended so, and why.
+#[derive(Clone, Copy)]
+struct Reason<'a> {
+    what: &'a str,
+    why: &'a str,
+}
+
+impl Display for Reason<'_> {
+    fn fmt<W: Write>(&self, f: &mut Formatter<W>) -> fmt::Result {
+        write!(f, "{}: {}", self.what, self.why)
+    }
+}
+
+/// Says on standard error why a command ended with a status other than 0, and what to do, unless that was said.
+pub fn tell_reason<R: Clock + Eprint>(rt: &R, words: &[Text], ending: Ending) {
+    if ending.is_told {
+        return;
+    }
+    if ending.status == Status::Usage.number() {
+        tell_usage(rt, words);
         return;
     }
     let [command, store, ..] = words else {
         return;
     };
-    let store = store.as_str();
-    if let Some(why) = reason_of(command.as_str(), status) {
-        let _ = eprintln!(rt; "newsdesk: {store}: {why}");
+    let (command, store) = (command.as_str(), store.as_str());
+    let Some(why) = reason_of(command, ending.status) else {
+        return;
+    };
+    match command {
+        "serve" => tell(rt, store, "", &why),
+        "drill" => say(rt, &Reason { what: command, why }),
+        _ => say(rt, &Reason { what: store, why }),
     }
 }
 
@@ -91,7 +130,7 @@ fn link(command: &str) -> &'static str {
             "the standby could not be reached or did not answer; what it said that it has is kept: run it again"
         }
         _ => {
-            "a receiver could not be reached or did not answer: its feed is tried again after its delay"
+            "a receiver could not be reached or did not answer: behind its delay the next `drain` tries it again"
         }
     }
 }
@@ -109,6 +148,10 @@ fn too_long(command: &str) -> &'static str {
     match command {
         "import" => {
             "the table has more than 4,194,304 bytes, and nothing was asked: cut it in two, each with its head"
+        }
+        "package" => "the input has more bytes than a package may have, and nothing was asked",
+        "ingest" => {
+            "the input is too long: of a wire what was answered is kept, of items nothing was taken in"
         }
         _ => "the input is too long; what was answered is kept: send the rest by itself",
     }

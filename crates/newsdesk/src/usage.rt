@@ -1,7 +1,9 @@
 //! Why words are no command, in words.
 
-use command_words::command_help;
+use command_words::{command_help, read_options};
+use error_lines::say;
 use news_types::{Name, Text};
+use std::fmt::{self, Display, Formatter, Write};
 use uuid::Uuid;
 
 /// What a word stands for.
@@ -11,8 +13,12 @@ enum Kind {
     Identifier,
     Format,
     Name,
-    /// A number below this one.
-    Number { below: u64 },
+    /// A number below 2^32.
+    Number,
+    /// A number of entries, below 2^48.
+    Place,
+    /// A number below 2^64.
+    Seed,
     Stories,
     Workers,
     Query,
@@ -26,22 +32,20 @@ struct Form {
     has_pairs: bool,
 }
 
-const NUMBER: Kind = Kind::Number {
-    below: 4_294_967_296,
-};
-
-const PLACE: Kind = Kind::Number {
-    below: 281_474_976_710_656,
-};
-
-const SEED: Kind = Kind::Number { below: u64::MAX };
-
 impl Form {
     /// A store, and these behind it.
-    fn of_store(second: Option<Kind>, third: Option<Kind>, has_pairs: bool) -> Form {
+    fn of_store(second: Option<Kind>, third: Option<Kind>) -> Form {
         Form {
             words: [Some(Kind::Store), second, third],
-            has_pairs,
+            has_pairs: false,
+        }
+    }
+
+    /// The same, and pairs behind them.
+    fn with_pairs(second: Option<Kind>, third: Option<Kind>) -> Form {
+        Form {
+            words: [Some(Kind::Store), second, third],
+            has_pairs: true,
         }
     }
 }
@@ -49,21 +53,21 @@ impl Form {
 /// What stands behind a command; nothing where the word is none.
 fn form_of(command: &str) -> Option<Form> {
     let form = match command {
-        "batch" | "queue" | "check" | "pack" | "limits" => Form::of_store(None, None, false),
-        "init" | "stand-in" => Form::of_store(Some(Kind::Identifier), None, false),
-        "receive" | "import" => Form::of_store(Some(Kind::Name), None, false),
-        "contents" => Form::of_store(Some(NUMBER), None, false),
-        "audit" | "ask" | "digest" => Form::of_store(Some(PLACE), None, false),
-        "ingest" => Form::of_store(Some(Kind::Format), Some(Kind::Name), false),
-        "package" => Form::of_store(Some(Kind::Name), Some(SEED), false),
-        "feed" => Form::of_store(Some(Kind::Name), Some(NUMBER), false),
-        "archive" => Form::of_store(Some(NUMBER), Some(Kind::Query), false),
-        "why" => Form::of_store(Some(NUMBER), Some(Kind::Name), false),
-        "ship" => Form::of_store(Some(Kind::Name), Some(Kind::Address), false),
-        "drain" => Form::of_store(None, None, true),
-        "serve" => Form::of_store(Some(Kind::Address), Some(Kind::Workers), true),
+        "batch" | "queue" | "check" | "pack" | "limits" => Form::of_store(None, None),
+        "init" | "stand-in" => Form::of_store(Some(Kind::Identifier), None),
+        "receive" | "import" => Form::of_store(Some(Kind::Name), None),
+        "contents" => Form::of_store(Some(Kind::Number), None),
+        "audit" | "ask" | "digest" => Form::of_store(Some(Kind::Place), None),
+        "ingest" => Form::of_store(Some(Kind::Format), Some(Kind::Name)),
+        "package" => Form::of_store(Some(Kind::Name), Some(Kind::Seed)),
+        "feed" => Form::of_store(Some(Kind::Name), Some(Kind::Number)),
+        "archive" => Form::of_store(Some(Kind::Number), Some(Kind::Query)),
+        "why" => Form::of_store(Some(Kind::Number), Some(Kind::Name)),
+        "ship" => Form::of_store(Some(Kind::Name), Some(Kind::Address)),
+        "drain" => Form::with_pairs(None, None),
+        "serve" => Form::with_pairs(Some(Kind::Address), Some(Kind::Workers)),
         "drill" => Form {
-            words: [Some(Kind::Stories), Some(SEED), None],
+            words: [Some(Kind::Stories), Some(Kind::Seed), None],
             has_pairs: false,
         },
         _ => return None,
@@ -79,7 +83,7 @@ impl Kind {
             Kind::Identifier => "UUID",
             Kind::Format => "FORMAT",
             Kind::Name => "a name",
-            Kind::Number { .. } => "a number",
+            Kind::Number | Kind::Place | Kind::Seed => "a number",
             Kind::Stories => "N",
             Kind::Workers => "WORKERS",
             Kind::Query => "QUERY",
@@ -93,8 +97,14 @@ impl Kind {
             Kind::Store => "a path that does not begin with `--`",
             Kind::Identifier => "a UUID, as 6ba7b810-9dad-11d1-80b4-00c04fd430c8",
             Kind::Format => "7901, ninjs, 7901-any or ninjs-any",
-            Kind::Name => "1 to 32 of a to z, 0 to 9, `-` and `_`, a letter or a digit first",
-            Kind::Number { .. } => "in decimal, without a sign and without leading zeros",
+            Kind::Name => "1 to 32 of a to z, 0 to 9, `-` and `_`",
+            Kind::Number => "below 4294967296, in decimal, without a sign and without leading zeros",
+            Kind::Place => {
+                "below 281474976710656, in decimal, without a sign and without leading zeros"
+            }
+            Kind::Seed => {
+                "below 18446744073709551616, in decimal, without a sign and without leading zeros"
+            }
             Kind::Stories => "a number from 1 to 100000",
             Kind::Workers => "a number from 1 to 16",
             Kind::Query => "a word",
@@ -109,7 +119,9 @@ impl Kind {
             Kind::Identifier => Uuid::parse_str(word).is_ok(),
             Kind::Format => matches!(word, "7901" | "ninjs" | "7901-any" | "ninjs-any"),
             Kind::Name => Name::read(word).is_some(),
-            Kind::Number { below } => number_of(word).is_some_and(|number| number < below),
+            Kind::Number => number_of(word).is_some_and(|number| number < 4_294_967_296),
+            Kind::Place => number_of(word).is_some_and(|number| number < 281_474_976_710_656),
+            Kind::Seed => number_of(word).is_some(),
             Kind::Stories => number_of(word).is_some_and(|number| (1..=100_000).contains(&number)),
             Kind::Workers => number_of(word).is_some_and(|number| (1..=16).contains(&number)),
             Kind::Query => true,
@@ -118,7 +130,7 @@ impl Kind {
     }
 }
 
-/// The number that a word is in decimal, without a sign and without leading zeros.
+/// The number below 2^64 that a word is in decimal, without a sign and without leading zeros.
 fn number_of(word: &str) -> Option<u64> {
     if !word.bytes().all(|byte| byte.is_ascii_digit())
         || (word.len() > 1 && word.starts_with('0'))
@@ -140,88 +152,162 @@ fn is_address(word: &str) -> bool {
     }
 }
 
-/// Whether each address among the words of a command is a host and a port; a command without any has none that is not.
+/// Whether each second one of these words is a host and a port.
+fn are_pairs(words: &[Text]) -> bool {
+    words.chunks_exact(2).all(|pair| {
+        pair.get(1)
+            .is_some_and(|address| is_address(address.as_str()))
+    })
+}
+
+/// Whether each word that stands for an address is a host and a port. Of words that lack one, and of a command without any, it is so.
 pub fn has_addresses(words: &[Text]) -> bool {
     let [command, words @ ..] = words else {
         return true;
     };
-    let pairs = match command.as_str() {
-        "drain" | "ship" => words.get(1..).unwrap_or(&[]),
-        "serve" => match words {
-            [_, address, _, pairs @ ..] if is_address(address.as_str()) => pairs,
-            _ => return false,
-        },
-        _ => return true,
-    };
-    pairs
-        .chunks_exact(2)
-        .all(|pair| is_address(pair[1].as_str()))
-}
-
-/// Says on standard error which of the words is not as it has to be.
-pub fn tell_usage<R: Eprint>(rt: &R, words: &[Text]) {
-    let [command, words @ ..] = words else {
-        let _ = eprintln!(rt; "newsdesk: there is no command: `newsdesk --help` lists them");
-        return;
-    };
-    let command = command.as_str();
-    let Some(form) = form_of(command) else {
-        let _ = eprintln!(rt; "newsdesk: `{command}` is no command: `newsdesk --help` lists them");
-        return;
-    };
-    tell_wrong(rt, command, words, &form);
-    if let Some(line) = command_help(command) {
-        let _ = eprint!(rt; "usage: {line}");
+    match (command.as_str(), words) {
+        ("drain" | "ship", [_, pairs @ ..]) => are_pairs(pairs),
+        ("serve", [_, address, _, pairs @ ..]) => {
+            is_address(address.as_str()) && are_pairs(pairs)
+        }
+        _ => true,
     }
 }
 
-/// Says which of the words behind a command is wrong, is missing, or is one too many.
-fn tell_wrong<R: Eprint>(rt: &R, command: &str, words: &[Text], form: &Form) {
+/// What is wrong with words.
+#[derive(Clone, Copy)]
+enum Wrong<'a> {
+    NoCommand,
+    NotACommand { word: &'a str },
+    BadOption { command: &'a str },
+    NotItsOption { command: &'a str },
+    Missing { command: &'a str, kind: Kind },
+    IsNot { command: &'a str, kind: Kind, word: &'a str },
+    NoAddress { command: &'a str, name: &'a str },
+    NameTwice { command: &'a str, name: &'a str },
+    OneTooMany { command: &'a str, word: &'a str },
+}
+
+impl Display for Wrong<'_> {
+    fn fmt<W: Write>(&self, f: &mut Formatter<W>) -> fmt::Result {
+        match *self {
+            Wrong::NoCommand => write!(f, "there is no command: `newsdesk --help` lists them"),
+            Wrong::NotACommand { word } => {
+                write!(f, "`{word}` is no command: `newsdesk --help` lists them")
+            }
+            Wrong::BadOption { command } => write!(
+                f,
+                "{command}: an option stands twice, or its value is none: FILE of --key, or SECONDS of --every, from 1 to 86400"
+            ),
+            Wrong::NotItsOption { command } => write!(f, "{command}: an option is not for it"),
+            Wrong::Missing { command, kind } => {
+                write!(f, "{command}: {} is missing: {}", kind.label(), kind.wanted())
+            }
+            Wrong::IsNot { command, kind, word } => write!(
+                f,
+                "{command}: `{word}` is not {}: {}",
+                kind.label(),
+                kind.wanted()
+            ),
+            Wrong::NoAddress { command, name } => write!(
+                f,
+                "{command}: the address of `{name}` is missing: {}",
+                Kind::Address.wanted()
+            ),
+            Wrong::NameTwice { command, name } => {
+                write!(f, "{command}: the name `{name}` stands twice")
+            }
+            Wrong::OneTooMany { command, word } => {
+                write!(f, "{command}: `{word}` is one word too many")
+            }
+        }
+    }
+}
+
+/// Says on standard error which of the words is not as it has to be, and the line of the command.
+pub fn tell_usage<R: Eprint>(rt: &R, words: &[Text]) {
+    say(rt, &wrong_of(words));
+    if let [command, ..] = words {
+        if let Some(line) = command_help(command.as_str()) {
+            let _ = eprint!(rt; "usage: {line}");
+        }
+    }
+}
+
+/// What is wrong with words that are no command.
+fn wrong_of(words: &[Text]) -> Wrong<'_> {
+    let [word, behind @ ..] = words else {
+        return Wrong::NoCommand;
+    };
+    let command = word.as_str();
+    let Some(form) = form_of(command) else {
+        return Wrong::NotACommand { word: command };
+    };
+    if read_options(words).is_none() {
+        return Wrong::BadOption { command };
+    }
+    wrong_behind(command, &form, behind)
+}
+
+/// What is wrong with the words behind a command.
+fn wrong_behind<'a>(command: &'a str, form: &Form, words: &'a [Text]) -> Wrong<'a> {
     let mut rest = words;
     for kind in form.words.iter().flatten() {
-        let (label, wanted) = (kind.label(), kind.wanted());
+        let kind = *kind;
         let [word, behind @ ..] = rest else {
-            let _ = eprintln!(rt; "newsdesk: {command}: {label} is missing: {wanted}");
-            return;
+            return Wrong::Missing { command, kind };
         };
         let word = word.as_str();
         if !kind.takes(word) {
-            let _ = eprintln!(rt; "newsdesk: {command}: `{word}` is not {label}: {wanted}");
-            return;
+            return Wrong::IsNot { command, kind, word };
         }
         rest = behind;
     }
-    if form.has_pairs {
-        tell_pairs(rt, command, rest);
-    } else if let Some(word) = rest.first() {
-        let word = word.as_str();
-        let _ = eprintln!(rt; "newsdesk: {command}: `{word}` is one word too many");
-    } else {
-        let _ = eprintln!(rt;
-            "newsdesk: {command}: an option is not for it, stands twice, or has no value"
-        );
+    match rest {
+        [] => Wrong::NotItsOption { command },
+        pairs if form.has_pairs => wrong_pair(command, pairs),
+        [word, ..] => Wrong::OneTooMany {
+            command,
+            word: word.as_str(),
+        },
     }
 }
 
-/// Says what is wrong with names and addresses that stand by turns.
-fn tell_pairs<R: Eprint>(rt: &R, command: &str, pairs: &[Text]) {
+/// What is wrong with names and addresses that stand by turns.
+fn wrong_pair<'a>(command: &'a str, pairs: &'a [Text]) -> Wrong<'a> {
     for pair in pairs.chunks(2) {
-        let name = pair[0].as_str();
+        let [name, address @ ..] = pair else {
+            break;
+        };
+        let name = name.as_str();
         if !Kind::Name.takes(name) {
-            let wanted = Kind::Name.wanted();
-            let _ = eprintln!(rt; "newsdesk: {command}: `{name}` is no name: {wanted}");
-            return;
+            return Wrong::IsNot {
+                command,
+                kind: Kind::Name,
+                word: name,
+            };
         }
-        let address = pair.get(1).map_or("", |address| address.as_str());
-        if !is_address(address) {
-            let wanted = Kind::Address.wanted();
-            let _ = eprintln!(rt;
-                "newsdesk: {command}: `{address}` is no address for `{name}`: {wanted}"
-            );
-            return;
+        let Some(address) = address.first() else {
+            return Wrong::NoAddress { command, name };
+        };
+        if !is_address(address.as_str()) {
+            return Wrong::IsNot {
+                command,
+                kind: Kind::Address,
+                word: address.as_str(),
+            };
+        }
+        if stands_twice(pairs, name) {
+            return Wrong::NameTwice { command, name };
         }
     }
-    let _ = eprintln!(rt;
-        "newsdesk: {command}: an option is not for it, stands twice, or has no value; or a name stands twice"
-    );
+    Wrong::NotItsOption { command }
+}
+
+/// Whether two of the pairs have this name.
+fn stands_twice(pairs: &[Text], name: &str) -> bool {
+    let same = pairs
+        .chunks(2)
+        .filter(|pair| pair.first().is_some_and(|it| it.as_str() == name));
+    same.count() > 1
 }

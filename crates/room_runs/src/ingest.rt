@@ -68,7 +68,7 @@ pub fn ingest_item<S: Source, O: Sink, K: Keeper, C: Clock>(
 }
 
 /// Answers the messages and faults of the wire that the input is, as agencies send them, and gives the status. The stories come in from
-/// this provider; a message whose post-text information names no day is told by the day of the reading of the clock.
+/// this provider; a message whose post-text information has no digit is told by the day of the reading of the clock.
 pub fn ingest_agency_wire<S: Source, O: Sink, K: Keeper, C: Clock>(
     alloc: Global,
     input: &mut S,
