@@ -187,11 +187,7 @@ fn wire_asked(
 }
 
 /// The wire that a request brings in, in this format.
-fn wire_ask(
-    alloc: Global,
-    format: IngestFormat,
-    request: &HttpRequest,
-) -> Result<WireAsk, Refusal>
+fn wire_ask(alloc: Global, format: IngestFormat, request: &HttpRequest) -> Result<WireAsk, Refusal>
     ensures value { IsSaid (said.wire_ask format request.now) result }
     ensures fits { IfOk result (λ wire. All FitsMember wire.members) }
 {

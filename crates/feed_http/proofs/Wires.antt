@@ -165,7 +165,7 @@ module _ {A C : Type 0} (turn : A → ℕ → Result RoomAsk Refusal → HttpAns
     row_put has is answers row came_row on gave texts' texts_are stop_is =
         let r : Row = record { member = member; reading = reading; turns = answers.turns; text = row.items } in
         let more : HasRows turn clock room new c c' wire.caller wire.provider wire.members left (texts ++ row.items ∷ []) (option_or stop (first_stop answers.turns)) =
-            has_more r (next_is has is) (row_came row answers came_row) answers.turned on gave in
+        has_more r (next_is has is) (row_came row answers came_row) answers.turned on gave in
         let same_stop : stop' ≡ option_or stop (first_stop answers.turns) = stop_is ∙ ap (λ (s : Option ℕ). option_or stop s) answers.stop in
         subst (λ (ts : List Bytes). HasRows turn clock room new c c' wire.caller wire.provider wire.members left ts stop') (sym texts_are)
         (subst (λ (s : Option ℕ). HasRows turn clock room new c c' wire.caller wire.provider wire.members left (texts ++ row.items ∷ []) s) (sym same_stop) more)

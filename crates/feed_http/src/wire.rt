@@ -40,12 +40,16 @@ fn came_of(answer: HttpAnswer) -> Came
     ensures row { (caller provider : Bytes) (reading : ℕ) (incoming : Incoming) → CameTo caller provider reading (story_turn caller provider reading incoming answer ∷ []) (Ok incoming) result.row }
 {
     let HttpAnswer { response, stop } = answer;
-    let row = if is_row(response.status) {
-        Ok(response.body.into_vec())
-    } else {
-        Err(response)
-    };
-    Came { row, stop }
+    if is_row(response.status) {
+        return Came {
+            row: Ok(response.body.into_vec()),
+            stop,
+        };
+    }
+    Came {
+        row: Err(response),
+        stop,
+    }
 }
 
 /// Asks a story in a turn of its own, as an item of the provider.

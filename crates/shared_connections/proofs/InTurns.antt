@@ -134,7 +134,7 @@ module _ {K A : Type 0} (keeper : KeeperMeaning K) (shared_of : A → Shared (Ro
       let same_lock : shared_of mid ≡ shared_of old = steps_same old mid x.turns t.2 in
       let later : WentFrom (shared_of old) mid new rest.answered = subst (λ (s : Shared (Room K)). WentFrom s mid new rest.answered) same_lock rest.went in
       let step : WentFrom (shared_of old) old mid (a ∷ []) =
-          one_step (Stands keeper (start_of (shared_of old))) (front_in (pass_of old)) (calls_in (pass_of old)) (front_in (pass_of mid)) (calls_in (pass_of mid)) a (subst (λ (y : Exchange). IsExchange y) (sym is_x) t.1) first.went in
+      one_step (Stands keeper (start_of (shared_of old))) (front_in (pass_of old)) (calls_in (pass_of old)) (front_in (pass_of mid)) (calls_in (pass_of mid)) a (subst (λ (y : Exchange). IsExchange y) (sym is_x) t.1) first.went in
       record {
         answered = a ∷ rest.answered;
         same = ap (λ (y : Exchange). y ∷ exchanges rest.answered) is_x ∙ ap (λ (ys : List Exchange). x ∷ ys) rest.same;

@@ -1,5 +1,5 @@
 -- That what is asked lies within the limits has one proof, and so a value may keep it.
-use Rattle.std.specs.Prelude.{ℕ, true, List, All, IfOk, Option, Some, None, Result, Ok, Err}
+use Rattle.std.specs.Prelude.{ℕ, ◌≤◌, true, List, length, All, IfOk, Option, Some, None, Result, Ok, Err}
 use Rattle.std.specs.Coded.{×_prop, Unit-prop, le_prop}
 use Rattle.std.proofs.Math.Bool.{Bool-set}
 use Rattle.news_types.specs.declared.story.Story.{Story}
@@ -8,7 +8,7 @@ use Rattle.news_types.specs.declared.rules.Statement.{Statement}
 use Rattle.news_types.specs.declared.rules.Rule.{Rule}
 use Rattle.news_types.specs.declared.command.Command.{Command}
 use Rattle.news_types.specs.declared.command.Command.TheVariants.{AddUser, SetUser, AddCondition, AddFilter, SetFilter, AddSubscriber, SetSubscriber, AddScheme, Create, Flash, Edit, Publish, Correct, Kill, Recall}
-use Rattle.news_types.specs.Fits.{FitsStory, FitsIncoming}
+use Rattle.news_types.specs.Fits.{IsMoment, FitsLag, FitsStory, FitsIncoming}
 use Rattle.news_types.specs.FitsCommands.{IfGiven, FitsValues, FitsStatement, FitsStatements, FitsRule, FitsScheme, FitsCommand}
 use Rattle.package_members.specs.Members.{make_package}
 use Rattle.desk_routes.specs.declared.ask.HttpAsk.{HttpAsk}
@@ -46,7 +46,7 @@ incoming_prop come a b = λ i. record {
 }
 
 values_prop : (values : List (List ℕ)) → IsProp (FitsValues values)
-values_prop values a b = λ i. record { few = le_prop a.few b.few i; short = all_prop _ (λ v. le_prop) values a.short b.short i }
+values_prop values a b = λ i. record { few = le_prop a.few b.few i; short = all_prop (λ (v : List ℕ). length v ≤ 500) (λ v. le_prop) values a.short b.short i }
 
 statement_prop : (s : Statement) → IsProp (FitsStatement s)
 statement_prop s a b = λ i. record { conditions = le_prop a.conditions b.conditions i; filters = le_prop a.filters b.filters i }
@@ -67,12 +67,12 @@ command_prop (AddCondition condition field op values) = values_prop values
 command_prop (AddFilter filter statements) = statements_prop statements
 command_prop (SetFilter filter statements) = statements_prop statements
 command_prop (AddSubscriber subscriber format products lag) = ×_prop le_prop le_prop
-command_prop (SetSubscriber subscriber active products off lag) = λ a b. λ i. (le_prop a.0 b.0 i, le_prop a.1 b.1 i, given_prop _ (λ l. le_prop) lag a.2 b.2 i)
+command_prop (SetSubscriber subscriber active products off lag) = λ a b. λ i. (le_prop a.0 b.0 i, le_prop a.1 b.1 i, given_prop FitsLag (λ l. le_prop) lag a.2 b.2 i)
 command_prop (AddScheme scheme rules) = scheme_prop rules
 command_prop (Create desk told) = story_prop told
 command_prop (Flash told targets) = ×_prop (story_prop told) le_prop
 command_prop (Edit item session told) = story_prop told
-command_prop (Publish item session schedule embargo targets) = λ a b. λ i. (given_prop _ (λ m. le_prop) schedule a.0 b.0 i, given_prop _ (λ m. le_prop) embargo a.1 b.1 i, le_prop a.2 b.2 i)
+command_prop (Publish item session schedule embargo targets) = λ a b. λ i. (given_prop IsMoment (λ m. le_prop) schedule a.0 b.0 i, given_prop IsMoment (λ m. le_prop) embargo a.1 b.1 i, le_prop a.2 b.2 i)
 command_prop (Correct item session told) = story_prop told
 command_prop (Kill item session note) = le_prop
 command_prop (Recall item session note) = le_prop

@@ -34,7 +34,13 @@ impl<'a, K: Keeper + Drop, R: Wait> Answers for Turns<'a, K, R> {
         let pass = self.pass.take().unwrap();
         let pass = self.shared.with_turn(self.rt, pass, &mut serving);
         self.pass = Some(pass);
-        watch_turn(self.rt, self.watch, provider, now, serving.answer.response.status);
+        watch_turn(
+            self.rt,
+            self.watch,
+            provider,
+            now,
+            serving.answer.response.status,
+        );
         serving.answer
     }
 

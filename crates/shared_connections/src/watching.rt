@@ -8,10 +8,14 @@ use std::sync::Wait;
 /// The provider of whom an item is taken in, where that is asked.
 pub(crate) fn provider_of(read: &Result<RoomAsk, Refusal>) -> Option<Name> {
     match read {
-        Ok(RoomAsk::By(Asking {
-            ask: HttpAsk::Ingest { provider, .. },
-            ..
-        })) => Some(*provider),
+        Ok(
+            RoomAsk::By(
+                Asking {
+                    ask: HttpAsk::Ingest { provider, .. },
+                    ..
+                },
+            ),
+        ) => Some(*provider),
         _ => None,
     }
 }
