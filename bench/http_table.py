@@ -215,6 +215,20 @@ def ingest(provider, user, value, wanted):
     return Ask(f"POST /ingest/{provider}/ninjs", user, wanted, value)
 
 
+def wire(provider, format, user, value, wanted):
+    return Ask(f"POST /ingest/{provider}/{format}", user, wanted, value)
+
+
+def rows(*told, status=200):
+    """The rows of a wire: the bodies of these answers."""
+    return status, '{"answer":"wire","rows":[' + ",".join(body for _, body, _ in told) + "]}", JSON
+
+
+def fault_at(at, what):
+    """The line of a fault of a wire."""
+    return 200, keyed(answer="fault", at=at, what=what), JSON
+
+
 def package(user, number, members, wanted, /, **story):
     members = [{"role": role, "item": item} for role, item in members.items()]
     return Ask("POST /packages", user, wanted, {"number": number, **story, "members": members})
@@ -447,6 +461,78 @@ INGESTS = Connection(
     get("/items/1", "admin", item("ingested", {"headline": "Fire", "body": "Smoke."}, 1)),
     get("/items/3", "admin", unknown("item")),
 )
+
+# two messages and the beginning of a third
+COUNCIL = "\1abc0001 3 pol 12\r\nvote\r\n\2Vote tonight\r\nThe council votes.\r\n\3 011200 may 26\r\n\4"
+BRIDGE = "\1abc0002 3 pol 5\r\n\2Bridge shut\r\nFor a week.\r\n\3 011300 may 26\r\n\4"
+CUT_OFF = "\1abc0003 3 pol"
+MESSAGES = COUNCIL + BRIDGE + CUT_OFF
+NO_TEXT = fault_at(len(MESSAGES), "NoText")
+# as an agency sends it
+AGENCY = "\1bas0001 3 pl 12 dpa\nfire\n\2Fire\nSmoke.\n\003011200 may 26\4\1bas0002 3"
+AGENCY_ITEMS = [WIRE, {"guid": "urn:x:2", "headline": "Rain", "body_text": "All day."}, {"uri": "urn:x:3", "type": "planning"}]
+WRONG_KIND = (200, keyed(answer="fault", what="WrongKind"), JSON)
+
+WIRES = [
+    Connection(
+        "wires come in",
+        "Closed",
+        post("admin", 1, "add_provider", done(1), provider="wire"),
+        wire("wire", "7901", "admin", MESSAGES, rows(done(2, 1), done(3, 2), NO_TEXT)),
+        wire("wire", "7901", "admin", MESSAGES, rows(done(0, 1), done(0, 2), NO_TEXT)),
+        wire("wire", "7901-any", "admin", AGENCY, rows(done(4, 3), fault_at(len(AGENCY), "NoText"))),
+        wire("wire", "ninjs-any", "admin", AGENCY_ITEMS, rows(done(5, 4), done(6, 5), WRONG_KIND)),
+        wire("wire", "ninjs-any", "admin", WIRE, rows(done(0, 4))),
+        get("/items/1", "admin", item("ingested", {"headline": "Vote tonight", "body": "The council votes.", "slugline": "vote", "category": "pol", "urgency": 3}, 1)),
+        get("/items/6", "admin", unknown("item")),
+    ),
+    Connection(
+        "who may bring a wire in, and for whom",
+        "Closed",
+        post("admin", 1, "add_provider", done(1), provider="wire"),
+        post("admin", 2, "add_user", done(2), user="ana", privileges=["write"]),
+        wire("wire", "7901", "ana", MESSAGES, bare(403)),
+        wire("wire", "7901", "ana", CUT_OFF + COUNCIL, rows(fault_at(len(CUT_OFF), "NoText"), status=403)),
+        wire("wire", "7901", "ana", CUT_OFF, rows(fault_at(len(CUT_OFF), "NoText"))),
+        wire("other", "7901", "admin", MESSAGES, unknown("provider")),
+        wire("other", "7901", "admin", CUT_OFF + COUNCIL + BRIDGE, rows(fault_at(len(CUT_OFF), "NoText"), status=404)),
+        wire("wire", "7901", None, MESSAGES, bare(400)),
+        wire("Wire", "7901", "admin", MESSAGES, bare(400)),
+        wire("wire", "7901", "admin", "", rows()),
+        wire("wire", "7901-any", "admin", "no message", rows()),
+        wire("wire", "ninjs-any", "admin", "[]", rows()),
+        wire("wire", "ninjs-any", "admin", "", rows((200, keyed(answer="fault", what="NotJson"), JSON))),
+        wire("wire", "7902", "admin", MESSAGES, bare(404)),
+        get("/ingest/wire/7901", "admin", bare(404)),
+        get("/items/1", "admin", unknown("item")),
+    ),
+    Connection(
+        "a wire of too many members",
+        "Closed",
+        post("admin", 1, "add_provider", done(1), provider="wire"),
+        wire("wire", "7901", "admin", "\1" * 4097, bare(413)),
+        wire("wire", "7901-any", "admin", "\1" * 4097, bare(413)),
+        wire("wire", "ninjs-any", "admin", [{}] * 4097, bare(413)),
+        wire("wire", "7901", "zoe", "\1" * 4097, bare(413)),
+        get("/queue", "admin", queue()),
+    ),
+    Connection(
+        "a wire that ends",
+        "Closed",
+        post("admin", 1, "add_provider", done(1), provider="wire"),
+        wire("wire", "7901", "admin", MESSAGES, rows(done(2, 1), status=503)),
+        wire("wire", "7901", "admin", MESSAGES, rows(done(0, 1), done(3, 2), NO_TEXT)),
+        failing=3,
+    ),
+    Connection(
+        "a wire whose first story is not kept",
+        "Closed",
+        post("admin", 1, "add_provider", done(1), provider="wire"),
+        wire("wire", "7901", "admin", MESSAGES, bare(503)),
+        wire("wire", "7901", "admin", MESSAGES, rows(done(2, 1), done(3, 2), NO_TEXT)),
+        failing=2,
+    ),
+]
 
 
 def record(fields):
@@ -1184,9 +1270,21 @@ STARVED_DESKS = [
     ),
 ]
 
-TABLE = [*WORKED, USERS, TARGETS, BODIES, STORY, TICKS, INGESTS, PACKAGES, ARCHIVE, *PACKAGE_TICKS, *FULL, *FAILS, *ENDINGS, *HEADS]
+STARVED_WIRES = [
+    Connection(
+        "no memory for every other story",
+        "Closed",
+        *twice(post("admin", 1, "add_provider", done(1), provider="wire")),
+        wire("wire", "7901", "admin", MESSAGES, bare(507)),
+        wire("wire", "7901", "admin", MESSAGES, rows(done(2, 1), status=507)),
+        wire("wire", "7901", "admin", COUNCIL, rows(done(0, 1))),
+        failing="growth",
+    ),
+]
+
+TABLE = [*WORKED, USERS, TARGETS, BODIES, STORY, TICKS, INGESTS, *WIRES, PACKAGES, ARCHIVE, *PACKAGE_TICKS, *FULL, *FAILS, *ENDINGS, *HEADS]
 # all that the gate runs; of these the starved ones are sent to it alone
-GATED = [*TABLE, *STARVED, *DESKS, *STARVED_DESKS]
+GATED = [*TABLE, *STARVED, *DESKS, *STARVED_DESKS, *STARVED_WIRES]
 
 
 # ---- the files of the gate

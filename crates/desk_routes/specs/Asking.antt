@@ -1,5 +1,5 @@
 -- What a request asks, or why it is refused before anything is asked.
-use Rattle.std.specs.Prelude.{◌≡◌, ℕ, IsTrue, List, [], Option, Some, None, Result, Ok, Err}
+use Rattle.std.specs.Prelude.{◌≡◌, ℕ, nat_le, length, IsTrue, List, [], All, if◌then◌else◌, Option, Some, None, Result, Ok, Err}
 use Rattle.news_types.specs.declared.story.Incoming.{Incoming}
 use Rattle.news_types.specs.declared.query.Query.TheVariants as query
 use Rattle.news_types.specs.Names.{Bytes}
@@ -19,15 +19,22 @@ use Rattle.package_members.specs.Members.{make_package}
 use Rattle.ninjs_text.specs.declared.fault.NinjsFault.{NinjsFault}
 use Rattle.ninjs_text.specs.Item.{ninjs}
 use Rattle.http_wire.specs.declared.request.HttpRequest.{HttpRequest}
+use Rattle.command_words.specs.declared.words.IngestFormat.{IngestFormat}
+use Rattle.command_words.specs.declared.words.IngestFormat.TheVariants as format
+use Rattle.wire_bodies.specs.declared.member.BodyMember.{BodyMember}
+use Rattle.wire_bodies.specs.Bodies.{members_of, FitsMember}
 use Rattle.desk_routes.specs.declared.route.Route.{Route}
 use Rattle.desk_routes.specs.declared.route.Route.TheVariants as the
 use Rattle.desk_routes.specs.declared.ask.HttpAsk.{HttpAsk}
 use Rattle.desk_routes.specs.declared.ask.HttpAsk.TheVariants.{Request, Query, Receipt, Ingest, Archive, Package, Contents, Desk}
 use Rattle.desk_routes.specs.declared.ask.Asking.{Asking}
+use Rattle.desk_routes.specs.declared.ask.RoomAsk.{RoomAsk}
+use Rattle.desk_routes.specs.declared.ask.RoomAsk.TheVariants.{By, Metrics}
+use Rattle.desk_routes.specs.declared.ask.WireAsk.{WireAsk}
 use Rattle.desk_routes.specs.declared.ask.HttpAsked.{HttpAsked}
-use Rattle.desk_routes.specs.declared.ask.HttpAsked.TheVariants.{By, Metrics}
+use Rattle.desk_routes.specs.declared.ask.HttpAsked.TheVariants.{Room, Wire}
 use Rattle.desk_routes.specs.declared.ask.Refusal.{Refusal}
-use Rattle.desk_routes.specs.declared.ask.Refusal.TheVariants.{NoRoute, NoCaller, BadPath, BadBody, BadItem, Memory}
+use Rattle.desk_routes.specs.declared.ask.Refusal.TheVariants.{NoRoute, NoCaller, BadPath, BadBody, BadItem, TooMany, Memory}
 use Rattle.desk_routes.specs.Routes.{routed}
 use Rattle.desk_routes.specs.Paths.{part, name_in, number_in}
 
@@ -203,8 +210,25 @@ ask_by the.Publication caller path body = publication_ask path
 ask_by the.Things caller path body = things_ask path
 ask_by the.ThingsAfter caller path body = things_after_ask path
 ask_by the.PublicationsAfter caller path body = publications_ask path
--- the metrics are asked without a caller (`asked_by`)
+-- a wire is no one ask, and the metrics are asked without a caller (`asked_by`)
+ask_by the.Wire caller path body = Err NoRoute
+ask_by the.AgencyWire caller path body = Err NoRoute
+ask_by the.AgencyItems caller path body = Err NoRoute
 ask_by the.Metrics caller path body = Err NoRoute
+
+-- ---- wires
+
+-- at most 4096 members
+abbrev pub few_members : List BodyMember → Result (List BodyMember) Refusal
+few_members members = if nat_le (length members) 4096 then Ok members else Err TooMany
+
+-- the caller's name, the provider's name in the path, and then the members of the body in this format
+abbrev pub wire_ask : IngestFormat → HttpRequest → Result WireAsk Refusal
+wire_ask given r = do
+  caller ← or_refused NoCaller r.user
+  provider ← name_at 2 r.target
+  members ← few_members (members_of given r.body)
+  Ok (record { caller = caller; provider = provider; members = members })
 
 -- ---- requests
 
@@ -215,26 +239,25 @@ asking route r = do
   ask ← ask_by route caller r.target r.body
   Ok (record { caller = caller; ask = ask })
 
+abbrev pub wire_asked : IngestFormat → HttpRequest → Result HttpAsked Refusal
+wire_asked given r = do
+  w ← wire_ask given r
+  Ok (Wire w)
+
 abbrev pub asked_by : Route → HttpRequest → Result HttpAsked Refusal
-asked_by the.Metrics r = Ok Metrics
+asked_by the.Metrics r = Ok (Room Metrics)
+asked_by the.Wire r = wire_asked format.Wire r
+asked_by the.AgencyWire r = wire_asked format.AgencyWire r
+asked_by the.AgencyItems r = wire_asked format.AgencyItems r
 asked_by route r = do
   a ← asking route r
-  Ok (By a)
+  Ok (Room (By a))
 
 -- what is asked by the route that it has
 abbrev pub asked : HttpRequest → Result HttpAsked Refusal
 asked r = do
   route ← or_refused NoRoute (routed r.method r.target)
   asked_by route r
-
--- the name of a provider in the path of an item that it brings in
-abbrev pub provider_by : Option Route → Bytes → Option Bytes
-provider_by (Some the.Ingest) path = name_in (part 2 path)
-provider_by route path = None
-
--- the provider in whose name a request's route takes an item in
-abbrev pub provider_of : HttpRequest → Option Bytes
-provider_of r = provider_by (routed r.method r.target) r.target
 
 -- what is asked is within the limits
 abbrev pub FitsAsk : HttpAsk → Type 0
@@ -243,6 +266,10 @@ FitsAsk (Ingest provider incoming) = FitsIncoming incoming
 FitsAsk (Package caller number described) = FitsStory described.story × IsTrue (make_package described.members)
 FitsAsk _ = Unit {0}
 
+abbrev pub FitsRoomAsk : RoomAsk → Type 0
+FitsRoomAsk Metrics = Unit {0}
+FitsRoomAsk (By a) = FitsAsk a.ask
+
 abbrev pub FitsAsked : HttpAsked → Type 0
-FitsAsked Metrics = Unit {0}
-FitsAsked (By a) = FitsAsk a.ask
+FitsAsked (Room a) = FitsRoomAsk a
+FitsAsked (Wire w) = All FitsMember w.members

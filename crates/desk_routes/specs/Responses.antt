@@ -12,7 +12,7 @@ use Rattle.ninjs_text.specs.declared.fault.NinjsFault.{NinjsFault}
 use Rattle.ninjs_text.specs.declared.fault.NinjsFault.TheVariants as fault
 use Rattle.ninjs_text.specs.Properties.{property_name}
 use Rattle.desk_routes.specs.declared.ask.Refusal.{Refusal}
-use Rattle.desk_routes.specs.declared.ask.Refusal.TheVariants.{NoRoute, NoCaller, BadPath, BadBody, BadItem, Memory}
+use Rattle.desk_routes.specs.declared.ask.Refusal.TheVariants.{NoRoute, NoCaller, BadPath, BadBody, BadItem, TooMany, Memory}
 use Rattle.desk_routes.specs.declared.response.Media.{Media}
 use Rattle.desk_routes.specs.declared.response.Media.TheVariants.{Json, Octets, Metrics}
 use Rattle.desk_routes.specs.declared.response.Response.{Response}
@@ -97,6 +97,7 @@ refusal_response NoCaller = bare 400
 refusal_response BadPath = bare 400
 refusal_response (BadBody property) = told_as 400 (bad_bytes property)
 refusal_response (BadItem found) = told_as 400 (fault_bytes None (fault_word found) (fault_property found))
+refusal_response TooMany = bare 413
 refusal_response Memory = bare 507
 
 -- ---- what has no body

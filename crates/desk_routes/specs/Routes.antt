@@ -8,7 +8,7 @@ use Rattle.matchit.specs.Seek.{first}
 use Rattle.matchit.specs.declared.error.InsertError.{InsertError}
 use Rattle.news_types.specs.Names.{Bytes, same}
 use Rattle.desk_routes.specs.declared.route.Route.{Route}
-use Rattle.desk_routes.specs.declared.route.Route.TheVariants.{Requests, Item, Queue, FeedAfter, Frame, Receipts, Ingest, Archive, Packages, Contents, ItemsBelow, DeskItemsBelow, Reach, ReachOfTargets, Publication, Things, ThingsAfter, PublicationsAfter, Metrics}
+use Rattle.desk_routes.specs.declared.route.Route.TheVariants.{Requests, Item, Queue, FeedAfter, Frame, Receipts, Ingest, Wire, AgencyWire, AgencyItems, Archive, Packages, Contents, ItemsBelow, DeskItemsBelow, Reach, ReachOfTargets, Publication, Things, ThingsAfter, PublicationsAfter, Metrics}
 
 -- what the paths of a route look like
 abbrev pub pattern_of : Route → Bytes
@@ -19,6 +19,9 @@ pattern_of FeedAfter = codes "/feeds/{subscriber}/after/{k}"
 pattern_of Frame = codes "/feeds/{subscriber}/frames/{k}"
 pattern_of Receipts = codes "/feeds/{subscriber}/receipts"
 pattern_of Ingest = codes "/ingest/{provider}/ninjs"
+pattern_of Wire = codes "/ingest/{provider}/7901"
+pattern_of AgencyWire = codes "/ingest/{provider}/7901-any"
+pattern_of AgencyItems = codes "/ingest/{provider}/ninjs-any"
 pattern_of Archive = codes "/archive"
 pattern_of Packages = codes "/packages"
 pattern_of Contents = codes "/publications/{publication}/contents"
@@ -41,6 +44,9 @@ method_of FeedAfter = codes "GET"
 method_of Frame = codes "GET"
 method_of Receipts = codes "POST"
 method_of Ingest = codes "POST"
+method_of Wire = codes "POST"
+method_of AgencyWire = codes "POST"
+method_of AgencyItems = codes "POST"
 method_of Archive = codes "POST"
 method_of Packages = codes "POST"
 method_of Contents = codes "GET"
@@ -71,9 +77,9 @@ with_read (Err error) route rows = rows
 abbrev pub with_route : Route → Rows → Rows
 with_route route rows = with_read (parse_route (pattern_of route)) route rows
 
--- the rows of the eighteen paths
-abbrev pub eighteen : Rows
-eighteen =
+-- the rows of all paths
+abbrev pub all_paths : Rows
+all_paths =
     with_route Metrics
     (with_route PublicationsAfter
     (with_route ThingsAfter
@@ -85,13 +91,16 @@ eighteen =
     (with_route Contents
     (with_route Packages
     (with_route Archive
+    (with_route AgencyItems
+    (with_route AgencyWire
+    (with_route Wire
     (with_route Ingest
     (with_route Receipts
     (with_route Frame
     (with_route FeedAfter
     (with_route Queue
     (with_route Item
-    (with_route Requests [])))))))))))))))))
+    (with_route Requests []))))))))))))))))))))
 
 abbrev pub value_of : Option (RouteOf Route) → Option Route
 value_of None = None
@@ -99,7 +108,7 @@ value_of (Some row) = Some row.value
 
 -- the route of a path
 abbrev pub route_of : Bytes → Option Route
-route_of path = value_of (first eighteen path)
+route_of path = value_of (first all_paths path)
 
 abbrev pub if_its_method : Bytes → Route → Option Route
 if_its_method method route = if same method (method_of route) then Some route else None

@@ -1,12 +1,14 @@
 //! What a request asks, or why it is refused before anything is asked.
-ghost use Rattle.std.specs.Prelude.{◌≡◌, IfOk};
+ghost use Rattle.std.specs.Prelude.{◌≡◌, All, IfOk};
 ghost use Rattle.desk_routes.specs.Asking as said;
+ghost use Rattle.wire_bodies.specs.Bodies.{FitsMember, members_of};
 ghost use Rattle.desk_routes.specs.Asking.{FitsAsk, FitsAsked, IsSaid, or_refused};
 ghost use Rattle.desk_routes.specs.Routes.{routed};
 ghost use Rattle.desk_routes.specs.declared.ask.Refusal.TheVariants.{NoRoute, NoCaller};
 
 use crate::path::{name_at, number_at};
 use crate::route::{Route, Routes};
+use command_words::IngestFormat;
 use desk_lines::{
     Asked, Described, LineFault, LineProperty, read_archive_body, read_package_body,
     read_reach_body, read_receipt_body, read_register, read_request_body,
@@ -16,6 +18,8 @@ use http_wire::HttpRequest;
 use news_types::{Command, Incoming, Name, Names, Query, Text};
 use ninjs_text::NinjsFault;
 use std::alloc::Global;
+use std::marker::Model;
+use wire_bodies::{BodyFault, BodyMember, read_members};
 
 /// What is asked of the room.
 #[derive(Drop)]
@@ -64,13 +68,61 @@ pub struct Asking {
     pub ask: HttpAsk,
 }
 
-/// What a request asks.
+/// What is asked in one turn.
 #[derive(Drop)]
-pub enum HttpAsked {
-    /// Its caller asks it of the room.
+pub enum RoomAsk {
+    /// A caller asks it.
     By(Asking),
     /// The metrics, for which nobody has to say a name.
     Metrics,
+}
+
+/// The members of a wire, in order.
+#[derive(Drop)]
+pub struct WireMembers {
+    items: Vec<BodyMember>,
+}
+
+impl Model for WireMembers {
+    ghost use Rattle.std.specs.Prelude.{List};
+    ghost use Rattle.wire_bodies.specs.declared.member.BodyMember.{BodyMember};
+
+    ghost Value = { List BodyMember };
+
+    ghost view = { λ a. a.items.items };
+}
+
+impl WireMembers {
+    /// These members.
+    pub fn of(items: Vec<BodyMember>) -> WireMembers
+        ensures { result ≡ items.items }
+    {
+        WireMembers { items }
+    }
+
+    /// The members as a vector, which takes no memory.
+    pub fn into_vec(self) -> Vec<BodyMember>
+        ensures { result.items ≡ self }
+    {
+        self.items
+    }
+}
+
+/// A wire that a caller brings in for a provider.
+#[derive(Drop)]
+pub struct WireAsk {
+    pub caller: Name,
+    pub provider: Name,
+    pub members: WireMembers,
+}
+
+/// What a request asks.
+#[derive(Drop)]
+pub enum HttpAsked {
+    /// What is asked in one turn.
+    Room(RoomAsk),
+    /// A wire, of which each story is asked in a turn of its own.
+    Wire(WireAsk),
 }
 
 /// Why a request is refused before anything is asked.
@@ -86,6 +138,8 @@ pub enum Refusal {
     BadBody { property: LineProperty },
     /// Its body is no ninjs item, for this first fault.
     BadItem { fault: NinjsFault },
+    /// The wire that it brings in has more than 4,096 members.
+    TooMany,
     /// There is no memory for it.
     Memory,
 }
@@ -96,24 +150,14 @@ impl Routes {
     /// # Errors
     ///
     /// The first that holds of these: no route has its method and path, it has no caller, a name or a number in its path is
-    /// none, its body is not of the form. Where there is no memory, `Memory` may come in their place. The metrics need no caller.
+    /// none, its body is not of the form or is a wire of more than 4,096 members. Where there is no memory, `Memory` may come in
+    /// their place. The metrics need no caller.
     pub fn read_ask(&self, request: &HttpRequest) -> Result<HttpAsked, Refusal>
         ensures value { IsSaid (said.asked request.now) result }
         ensures fits { IfOk result FitsAsked }
     {
         let route = route_of(self, request)?;
         asked_by(self.alloc(), route, request)
-    }
-
-    /// The provider in whose name the route of a request takes an item in.
-    pub fn provider_of(&self, request: &HttpRequest) -> Option<Name>
-        ensures { result ≡ said.provider_of request.now }
-    {
-        let path = request.target.as_str();
-        match self.find(&request.method, path) {
-            Some(Route::Ingest) => name_at(path, 2),
-            _ => None,
-        }
     }
 }
 
@@ -123,8 +167,49 @@ fn asked_by(alloc: Global, route: Route, request: &HttpRequest) -> Result<HttpAs
     ensures fits { IfOk result FitsAsked }
 {
     match route {
-        Route::Metrics => Ok(HttpAsked::Metrics),
-        route => Ok(HttpAsked::By(asking_of(alloc, route, request)?)),
+        Route::Metrics => Ok(HttpAsked::Room(RoomAsk::Metrics)),
+        Route::Wire => wire_asked(alloc, IngestFormat::Wire, request),
+        Route::AgencyWire => wire_asked(alloc, IngestFormat::AgencyWire, request),
+        Route::AgencyItems => wire_asked(alloc, IngestFormat::AgencyItems, request),
+        route => Ok(HttpAsked::Room(RoomAsk::By(asking_of(alloc, route, request)?))),
+    }
+}
+
+fn wire_asked(
+    alloc: Global,
+    format: IngestFormat,
+    request: &HttpRequest,
+) -> Result<HttpAsked, Refusal>
+    ensures value { IsSaid (said.wire_asked format request.now) result }
+    ensures fits { IfOk result FitsAsked }
+{
+    Ok(HttpAsked::Wire(wire_ask(alloc, format, request)?))
+}
+
+/// The wire that a request brings in, in this format.
+fn wire_ask(alloc: Global, format: IngestFormat, request: &HttpRequest) -> Result<WireAsk, Refusal>
+    ensures value { IsSaid (said.wire_ask format request.now) result }
+    ensures fits { IfOk result (λ wire. All FitsMember wire.members) }
+{
+    let caller = caller_of(request)?;
+    let provider = needs_name(request.target.as_str(), 2)?;
+    let members = members_in(alloc, format, request.body.as_slice())?;
+    Ok(WireAsk {
+        caller,
+        provider,
+        members,
+    })
+}
+
+/// The members of a body in this format.
+fn members_in(alloc: Global, format: IngestFormat, body: &[u8]) -> Result<WireMembers, Refusal>
+    ensures value { IsSaid (said.few_members (members_of format body.now)) result }
+    ensures fits { IfOk result (λ members. All FitsMember members) }
+{
+    match read_members(alloc, format, body) {
+        Ok(members) => Ok(WireMembers::of(members)),
+        Err(BodyFault::TooMany) => Err(Refusal::TooMany),
+        Err(BodyFault::Memory) => Err(Refusal::Memory),
     }
 }
 
@@ -187,7 +272,9 @@ fn ask_by(
         Route::Things => things_ask(path),
         Route::ThingsAfter => things_after_ask(path),
         Route::PublicationsAfter => publications_ask(path),
-        Route::Metrics => Err(Refusal::NoRoute),
+        Route::Wire | Route::AgencyWire | Route::AgencyItems | Route::Metrics => {
+            Err(Refusal::NoRoute)
+        }
     }
 }
 

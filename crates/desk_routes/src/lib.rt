@@ -12,7 +12,7 @@ mod response;
 mod rights;
 mod route;
 
-pub use ask::{Asking, HttpAsk, HttpAsked, Refusal};
+pub use ask::{Asking, HttpAsk, HttpAsked, Refusal, RoomAsk, WireAsk, WireMembers};
 pub use laws::paths_law;
 pub use response::{
     Media, Notice, Response, notify, refuse, respond_answer, respond_denial, respond_reply,

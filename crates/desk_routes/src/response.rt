@@ -185,6 +185,7 @@ pub fn refuse(alloc: Global, refusal: Refusal) -> Result<Response, Memory>
             let body = fault_text(alloc, None, word_of_fault(fault), property)?;
             Ok(told_as(400, body))
         }
+        Refusal::TooMany => Ok(bare(alloc, 413)),
         Refusal::Memory => Ok(bare(alloc, 507)),
     }
 }

@@ -1,6 +1,6 @@
 //! The routes of requests.
 ghost use Rattle.std.specs.Prelude.{◌≡◌, [], IfOk, OnOk};
-ghost use Rattle.desk_routes.specs.Routes.{beside, eighteen, if_its_method, if_method, method_of, pattern_of, route_of, routed, with_route};
+ghost use Rattle.desk_routes.specs.Routes.{beside, all_paths, if_its_method, if_method, method_of, pattern_of, route_of, routed, with_route};
 
 use http::Method;
 use matchit::Router;
@@ -18,6 +18,9 @@ pub enum Route {
     Frame,
     Receipts,
     Ingest,
+    Wire,
+    AgencyWire,
+    AgencyItems,
     Archive,
     Packages,
     Contents,
@@ -45,6 +48,9 @@ impl Route {
             Route::Frame => "/feeds/{subscriber}/frames/{k}",
             Route::Receipts => "/feeds/{subscriber}/receipts",
             Route::Ingest => "/ingest/{provider}/ninjs",
+            Route::Wire => "/ingest/{provider}/7901",
+            Route::AgencyWire => "/ingest/{provider}/7901-any",
+            Route::AgencyItems => "/ingest/{provider}/ninjs-any",
             Route::Archive => "/archive",
             Route::Packages => "/packages",
             Route::Contents => "/publications/{publication}/contents",
@@ -67,6 +73,9 @@ impl Route {
             Route::Requests
             | Route::Receipts
             | Route::Ingest
+            | Route::Wire
+            | Route::AgencyWire
+            | Route::AgencyItems
             | Route::Archive
             | Route::Packages
             | Route::ReachOfTargets => "POST",
@@ -107,10 +116,10 @@ fn put(router: &mut Router<Route>, route: Route) -> Result<(), Memory>
     }
 }
 
-/// Adds the eighteen paths to a router that has none.
+/// Adds all paths to a router that has none.
 fn put_all(router: &mut Router<Route>) -> Result<(), Memory>
     requires { router.old ≡ [] }
-    ensures { OnOk result (router.new ≡ eighteen) }
+    ensures { OnOk result (router.new ≡ all_paths) }
 {
     put(router, Route::Requests)?;
     put(router, Route::Item)?;
@@ -119,6 +128,9 @@ fn put_all(router: &mut Router<Route>) -> Result<(), Memory>
     put(router, Route::Frame)?;
     put(router, Route::Receipts)?;
     put(router, Route::Ingest)?;
+    put(router, Route::Wire)?;
+    put(router, Route::AgencyWire)?;
+    put(router, Route::AgencyItems)?;
     put(router, Route::Archive)?;
     put(router, Route::Packages)?;
     put(router, Route::Contents)?;
@@ -132,9 +144,9 @@ fn put_all(router: &mut Router<Route>) -> Result<(), Memory>
     put(router, Route::Metrics)
 }
 
-/// The router of the eighteen paths.
+/// The router of all paths.
 fn router_of_all(alloc: Global) -> Result<Router<Route>, Memory>
-    ensures { IfOk result (λ router. router ≡ eighteen) }
+    ensures { IfOk result (λ router. router ≡ all_paths) }
 {
     let mut router = Router::new(alloc);
     // (each `?` beside a living router is proved with all that letting it go does: so there is one)
@@ -144,7 +156,7 @@ fn router_of_all(alloc: Global) -> Result<Router<Route>, Memory>
 
 /// The route of a path.
 fn route_at(router: &Router<Route>, path: &str) -> Option<Route>
-    requires { router.now ≡ eighteen }
+    requires { router.now ≡ all_paths }
     ensures { result ≡ route_of path.now }
 {
     match router.at(path) {
@@ -153,7 +165,7 @@ fn route_at(router: &Router<Route>, path: &str) -> Option<Route>
     }
 }
 
-/// The routes by their eighteen paths: made once, for any number of requests.
+/// The routes by their paths: made once, for any number of requests.
 #[derive(Drop)]
 pub struct Routes {
     alloc: Global,
@@ -162,13 +174,13 @@ pub struct Routes {
 
 impl Model for Routes {
     ghost use Rattle.std.specs.Prelude.{◌≡◌};
-    ghost use Rattle.desk_routes.specs.Routes.{eighteen};
+    ghost use Rattle.desk_routes.specs.Routes.{all_paths};
 
     ghost Value = { Unit {0} };
 
     ghost view = { λ a. tt };
 
-    ghost invariant = { λ a. a.router ≡ eighteen };
+    ghost invariant = { λ a. a.router ≡ all_paths };
 }
 
 impl Routes {

@@ -10,12 +10,14 @@ use Rattle.news_io.specs.Clock.{ClockMeaning}
 use Rattle.http_wire.specs.declared.request.HttpRequest.{HttpRequest}
 use Rattle.http_wire.specs.Requests.{Asks, Begins}
 use Rattle.http_wire.specs.Writing.{Writes, WroteSome}
+use Rattle.desk_routes.specs.declared.ask.RoomAsk.{RoomAsk}
+use Rattle.desk_routes.specs.declared.ask.Refusal.{Refusal}
 use Rattle.desk_routes.specs.declared.response.Notice.{Notice}
 use Rattle.feed_http.specs.declared.answers.HttpAnswer.{HttpAnswer}
 use Rattle.feed_http.specs.declared.ended.Ended.{Ended}
 use Rattle.feed_http.specs.declared.ended.Ended.TheVariants.{Stopped, Closed, Limit, HeadFault, TooLarge, Chunked, ReadFault, WriteFault, Memory}
 use Rattle.feed_http.specs.declared.exchange.Turned.{Turned}
-use Rattle.feed_http.specs.Exchanges.{Exchange, exchange_bytes, requests, responses, Awaits, EndsIn}
+use Rattle.feed_http.specs.Exchanges.{Exchange, exchange_of, exchange_bytes, requests, responses, Awaits, EndsIn}
 use Rattle.feed_http.specs.Served.{notice_bytes, Refuses, IsEnd, WroteOrFailed, WroteAll, IsWritten, Served}
 use Rattle.feed_http.specs.Serving.{IsTurned, Refused, CutShort, IsRefused, Running}
 use Rattle.feed_http.proofs.Exchanges.{requests_push, readings_push, turns_push, open_push, said_more, no_tail}
@@ -61,10 +63,7 @@ module _ {O : Type 0} (sink : SinkMeaning O) where
   pub wrote_tail : (old new : O) (text : List ℕ) → WroteAll sink old new text → WroteAll sink old new (text ++ [])
   wrote_tail old new text w = record { bytes = no_tail (sink.taken old) text (sink.taken new) w.bytes; passed = w.passed }
 
-abbrev pub exchange_of : HttpRequest → ℕ → HttpAnswer → Exchange
-exchange_of q now a = record { request = q; reading = now; answer = a }
-
-module _ {A C S O : Type 0} (turn : A → ℕ → HttpRequest → HttpAnswer → A → Type 0) (clock : ClockMeaning C) (source : SourceMeaning S) (sink : SinkMeaning O) where
+module _ {A C S O : Type 0} (turn : A → ℕ → Result RoomAsk Refusal → HttpAnswer → A → Type 0) (clock : ClockMeaning C) (source : SourceMeaning S) (sink : SinkMeaning O) where
   -- nothing was answered yet
   abbrev pub begins_none : (room : A) (c : C) (s : S) (o : O) → Running turn clock source sink room room c c s s [] o o 0
   begins_none room c s o = record {
@@ -82,14 +81,14 @@ module _ {A C S O : Type 0} (turn : A → ℕ → HttpRequest → HttpAnswer →
 
   abbrev pub with_last : {room mid new : A} {c cmid c' : C} {s smid : S} {kept : List ℕ} {o omid o' : O} {n : ℕ} {q : HttpRequest} {t : Turned}
       → Running turn clock source sink room mid c cmid s smid kept o omid n → IsTurned turn clock sink mid new cmid c' omid o' q t → List Exchange
-  with_last {q = q} run turned = run.exchanges ++ exchange_of q turned.reading turned.answer ∷ []
+  with_last {q = q} run turned = run.exchanges ++ exchange_of q turned.answered.taken turned.answered.turns turned.answer ∷ []
 
   -- all was written, with the last answer
   pub all_last : {room mid new : A} {c cmid c' : C} {s smid : S} {kept : List ℕ} {o omid o' : O} {n : ℕ} {q : HttpRequest} {t : Turned} (u : Unit {0})
       → (run : Running turn clock source sink room mid c cmid s smid kept o omid n) → (turned : IsTurned turn clock sink mid new cmid c' omid o' q t) → t.wrote ≡ Ok u
-      → sink.tells o → WroteAll sink o o' (responses (run.exchanges ++ exchange_of q turned.reading turned.answer ∷ []))
+      → sink.tells o → WroteAll sink o o' (responses (run.exchanges ++ exchange_of q turned.answered.taken turned.answered.turns turned.answer ∷ []))
   all_last {o = o} {omid = omid} {o' = o'} {q = q} {t = t} u run turned ok h =
-      let x = exchange_of q turned.reading turned.answer in
+      let x = exchange_of q turned.answered.taken turned.answered.turns turned.answer in
       let w : sink.taken o' ≡ sink.taken omid ++ exchange_bytes x = subst (λ (r : Result (Unit {0}) Failed). Writes sink omid o' (exchange_bytes x) r) ok (turned.wrote (run.sink_on h)) in
       let p : sink.passed o' ≡ sink.taken o' = subst (λ (r : Result (Unit {0}) Failed). OnOk r (sink.passed o' ≡ sink.taken o')) ok (turned.passed (run.sink_on h)) in
       record { bytes = said_more (sink.taken o) run.exchanges x (sink.taken omid) (sink.taken o') (run.wrote h).bytes w; passed = λ was. p }
@@ -101,14 +100,14 @@ module _ {A C S O : Type 0} (turn : A → ℕ → HttpRequest → HttpAnswer →
       → IsTurned turn clock sink mid new cmid c' omid o' q t → t.stop ≡ None → t.close ≡ false → t.wrote ≡ Ok u
       → Running turn clock source sink room new c c' s s' kept' o o' (n + 1)
   goes_on {room = room} {mid = mid} {new = new} {c = c} {cmid = cmid} {c' = c'} {s = s} {smid = smid} {s' = s'} {kept = kept} {kept' = kept'} {q = q} u run asks on turned stop close wrote =
-      let x = exchange_of q turned.reading turned.answer in
+      let x = exchange_of q turned.answered.taken turned.answered.turns turned.answer in
       record {
         exchanges = run.exchanges ++ x ∷ [];
         many = length_push run.exchanges x ∙ ap (λ (k : ℕ). k + 1) run.many;
         open_all = open_push run.exchanges x run.open_all (record { close = sym turned.close ∙ close; stop = sym turned.stop ∙ stop });
-        turns = turns_push turn room run.exchanges x mid new run.turns turned.turned;
-        clock_on = λ h. turned.clock_on (run.clock_on h);
-        gave = λ h. readings_push (clock.ahead c) run.exchanges x (clock.ahead cmid) (clock.ahead c') (run.gave h) (turned.gave (run.clock_on h));
+        turns = turns_push turn room run.exchanges x mid new run.turns turned.answered.is turned.answered.turned;
+        clock_on = λ h. turned.answered.clock_on (run.clock_on h);
+        gave = λ h. readings_push (clock.ahead c) run.exchanges x (clock.ahead cmid) (clock.ahead c') (run.gave h) (turned.answered.gave (run.clock_on h));
         source_on = λ h. on (run.source_on h);
         begins = λ h. requests_push (source.ahead s) run.exchanges x (kept ++ source.ahead smid) (kept' ++ source.ahead s') (run.begins h) (asks (run.source_on h));
         sink_on = λ h. turned.sink_on (run.sink_on h);
@@ -120,17 +119,17 @@ module _ {A C S O : Type 0} (turn : A → ℕ → HttpRequest → HttpAnswer →
       → (run : Running turn clock source sink room mid c cmid s smid kept o omid n)
       → (source.tells smid → Asks (kept ++ source.ahead smid) q (kept' ++ source.ahead s'))
       → (turned : IsTurned turn clock sink mid new cmid c' omid o' q t)
-      → IsEnd (source.tells s) (kept' ++ source.ahead s') (run.exchanges ++ exchange_of q turned.reading turned.answer ∷ []) [] e
-      → (sink.tells o → IsWritten sink o o' (responses (run.exchanges ++ exchange_of q turned.reading turned.answer ∷ []) ++ []) e)
+      → IsEnd (source.tells s) (kept' ++ source.ahead s') (run.exchanges ++ exchange_of q turned.answered.taken turned.answered.turns turned.answer ∷ []) [] e
+      → (sink.tells o → IsWritten sink o o' (responses (run.exchanges ++ exchange_of q turned.answered.taken turned.answered.turns turned.answer ∷ []) ++ []) e)
       → Served turn clock source sink room new c c' s s' o o' e
   ends_with {room = room} {mid = mid} {new = new} {c = c} {cmid = cmid} {c' = c'} {s = s} {smid = smid} {kept = kept} {q = q} s' kept' e run asks turned end written =
-      let x = exchange_of q turned.reading turned.answer in
+      let x = exchange_of q turned.answered.taken turned.answered.turns turned.answer in
       record {
         exchanges = run.exchanges ++ x ∷ [];
         tail = [];
         left = kept' ++ source.ahead s';
-        turns = turns_push turn room run.exchanges x mid new run.turns turned.turned;
-        clock_gave = λ h. readings_push (clock.ahead c) run.exchanges x (clock.ahead cmid) (clock.ahead c') (run.gave h) (turned.gave (run.clock_on h));
+        turns = turns_push turn room run.exchanges x mid new run.turns turned.answered.is turned.answered.turned;
+        clock_gave = λ h. readings_push (clock.ahead c) run.exchanges x (clock.ahead cmid) (clock.ahead c') (run.gave h) (turned.answered.gave (run.clock_on h));
         begins = λ h. requests_push (source.ahead s) run.exchanges x (kept ++ source.ahead smid) (kept' ++ source.ahead s') (run.begins h) (asks (run.source_on h));
         ends = end;
         wrote = written;
@@ -139,16 +138,16 @@ module _ {A C S O : Type 0} (turn : A → ℕ → HttpRequest → HttpAnswer →
   -- that exchange is the last
   pub last_of : {room mid new : A} {c cmid c' : C} {s smid : S} {kept : List ℕ} {o omid o' : O} {n : ℕ} {q : HttpRequest} {t : Turned}
       → (run : Running turn clock source sink room mid c cmid s smid kept o omid n) → (turned : IsTurned turn clock sink mid new cmid c' omid o' q t) → n < 64
-      → EndsIn (run.exchanges ++ exchange_of q turned.reading turned.answer ∷ []) (exchange_of q turned.reading turned.answer)
+      → EndsIn (run.exchanges ++ exchange_of q turned.answered.taken turned.answered.turns turned.answer ∷ []) (exchange_of q turned.answered.taken turned.answered.turns turned.answer)
   last_of run turned few = record { before = run.exchanges; are = refl; awaits = record { open_all = run.open_all; few = omega (arith, run.many, few) } }
 
   -- what was written with the last answer
   pub tried_last : {room mid new : A} {c cmid c' : C} {s smid : S} {kept : List ℕ} {o omid o' : O} {n : ℕ} {q : HttpRequest} {t : Turned}
       → (run : Running turn clock source sink room mid c cmid s smid kept o omid n) → (turned : IsTurned turn clock sink mid new cmid c' omid o' q t)
       → sink.faults omid ≡ sink.faults o → Counts (sink.faults omid) (sink.faults o') t.wrote
-      → sink.tells o → WroteOrFailed sink o o' (responses (run.exchanges ++ exchange_of q turned.reading turned.answer ∷ []) ++ [])
+      → sink.tells o → WroteOrFailed sink o o' (responses (run.exchanges ++ exchange_of q turned.answered.taken turned.answered.turns turned.answer ∷ []) ++ [])
   tried_last {o = o} {omid = omid} {o' = o'} {q = q} {t = t} run turned calm counts h =
-      let x = exchange_of q turned.reading turned.answer in
+      let x = exchange_of q turned.answered.taken turned.answered.turns turned.answer in
       let w = behind_or_failed sink o omid o' (responses run.exchanges) (exchange_bytes x) (run.wrote h).bytes (all_or_failed sink o omid o' (exchange_bytes x) t.wrote calm counts (turned.wrote (run.sink_on h))) in
       subst (λ (l : List ℕ). WroteOrFailed sink o o' l) (flat_map_more exchange_bytes [] run.exchanges x ∙ sym (append-nil (responses (run.exchanges ++ x ∷ [])))) w
 

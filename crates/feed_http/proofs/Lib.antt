@@ -1,3 +1,5 @@
+pub mod Wires
+pub mod Answering
 pub mod Exchanges
 pub mod Connections
 pub mod Outcomes

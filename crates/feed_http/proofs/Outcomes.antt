@@ -22,14 +22,13 @@ use Rattle.server_metrics.specs.Metrics.{metrics}
 use Rattle.desk_lines.specs.declared.lines.Described.{Described}
 use Rattle.desk_routes.specs.declared.ask.HttpAsk.TheVariants as ask
 use Rattle.desk_routes.specs.declared.ask.Asking.{Asking}
-use Rattle.desk_routes.specs.declared.ask.HttpAsked.TheVariants.{By, Metrics}
+use Rattle.desk_routes.specs.declared.ask.RoomAsk.TheVariants.{By, Metrics}
 use Rattle.desk_routes.specs.declared.ask.Refusal.{Refusal}
 use Rattle.desk_routes.specs.declared.response.Response.{Response}
 use Rattle.desk_routes.specs.declared.response.Notice.TheVariants as notice
 use Rattle.desk_routes.specs.Rights.{right_of, may_ask}
 use Rattle.desk_routes.specs.Responses.{answered_response, answer_response, refusal_response, metrics_response, notice_response}
-use Rattle.http_wire.specs.declared.request.HttpRequest.{HttpRequest}
-use Rattle.feed_http.specs.Outcome.{HttpOutcome, Seen, search_response, contents_response, question_response, no_readers_response, package_of, flash_outcome, package_outcome, with_tick, told_behind, ask_outcome, asking_outcome, read_outcome, unasked, asks, http}
+use Rattle.feed_http.specs.Outcome.{HttpOutcome, Seen, search_response, contents_response, question_response, no_readers_response, package_of, flash_outcome, package_outcome, with_tick, told_behind, ask_outcome, asking_outcome, unasked, http}
 
 abbrev pub replied : Outcome outcome.Answered → HttpOutcome
 replied o = record { response = answered_response o.answer; adds = entries o.more }
@@ -97,18 +96,14 @@ pub judged : (store : Bytes) (h : History) (a : Asking) (m : ℕ) → asking_out
 unfolding asking_outcome
 judged store h a m = refl
 
-pub read_by : (store : Bytes) (h : History) (a : Asking) (reading : ℕ) (seen : Seen) → read_outcome store h (Ok (By a)) reading seen ≡ asking_outcome store h a (moment_at h reading)
-unfolding read_outcome
-read_by store h a reading seen = refl
-
-pub read_metrics : (store : Bytes) (h : History) (reading : ℕ) (seen : Seen) → read_outcome store h (Ok Metrics) reading seen ≡ unasked (metrics_response (metrics h reading seen.size seen.counts))
-unfolding read_outcome
-read_metrics store h reading seen = refl
-
-pub read_err : (store : Bytes) (h : History) (refusal : Refusal) (reading : ℕ) (seen : Seen) → read_outcome store h (Err refusal) reading seen ≡ unasked (refusal_response refusal)
-unfolding read_outcome
-read_err store h refusal reading seen = refl
-
-pub http_is : (store : Bytes) (h : History) (request : HttpRequest) (reading : ℕ) (seen : Seen) → http store h request reading seen ≡ read_outcome store h (asks request) reading seen
+pub http_by : (store : Bytes) (h : History) (a : Asking) (reading : ℕ) (seen : Seen) → http store h (Ok (By a)) reading seen ≡ asking_outcome store h a (moment_at h reading)
 unfolding http
-http_is store h request reading seen = refl
+http_by store h a reading seen = refl
+
+pub http_metrics : (store : Bytes) (h : History) (reading : ℕ) (seen : Seen) → http store h (Ok Metrics) reading seen ≡ unasked (metrics_response (metrics h reading seen.size seen.counts))
+unfolding http
+http_metrics store h reading seen = refl
+
+pub http_err : (store : Bytes) (h : History) (refusal : Refusal) (reading : ℕ) (seen : Seen) → http store h (Err refusal) reading seen ≡ unasked (refusal_response refusal)
+unfolding http
+http_err store h refusal reading seen = refl

@@ -1,7 +1,8 @@
 -- The status of each outcome.
 use Rattle.std.proofs.Common.{◌≡◌, ◌⊎◌, inl, inr, ℕ, Bool, true, false, cond, List, [], ◌∷◌, ◌++◌, Option, Some, None, Ok, Err, refl, sym, ap, ◌∙◌, subst}
 use Rattle.std.proofs.lemmas.Bool.{false≢true}
-use Rattle.std.specs.Prelude.{Result, ◌==◌}
+use Rattle.std.specs.Prelude.{Result, ◌==◌, nat_le, length}
+use Rattle.std.proofs.lemmas.List.{append-nil}
 use Rattle.news_types.specs.declared.entry.Entry.{Entry}
 use Rattle.news_types.specs.declared.entry.Act.TheVariants.{Advance}
 use Rattle.news_types.specs.declared.command.Command.TheVariants.{Flash}
@@ -32,25 +33,31 @@ use Rattle.package_rules.specs.Readers.{readers}
 use Rattle.ninjs_text.specs.Item.{ninjs}
 use Rattle.feed_frames.specs.Writer.{the_writer}
 use Rattle.news_room.specs.Beside.{Beside}
-use Rattle.news_room.specs.Steps.{entries}
+use Rattle.news_room.specs.Stands.{limit_for}
+use Rattle.news_room.specs.Steps.{entries, Given}
+use Rattle.command_words.specs.declared.words.IngestFormat.{IngestFormat}
+use Rattle.command_words.specs.declared.words.IngestFormat.TheVariants as format
+use Rattle.wire_bodies.specs.declared.member.BodyMember.{BodyMember}
+use Rattle.wire_bodies.specs.Bodies.{members_of}
 use Rattle.http_wire.specs.declared.request.HttpRequest.{HttpRequest}
 use Rattle.desk_routes.specs.declared.route.Route.{Route}
 use Rattle.desk_routes.specs.declared.route.Route.TheVariants as the
 use Rattle.desk_routes.specs.declared.ask.HttpAsk.{HttpAsk}
 use Rattle.desk_routes.specs.declared.ask.HttpAsk.TheVariants as ask
 use Rattle.desk_routes.specs.declared.ask.HttpAsked.{HttpAsked}
-use Rattle.desk_routes.specs.declared.ask.HttpAsked.TheVariants.{By, Metrics}
+use Rattle.desk_routes.specs.declared.ask.RoomAsk.{RoomAsk}
+use Rattle.desk_routes.specs.declared.ask.RoomAsk.TheVariants.{By, Metrics}
 use Rattle.desk_routes.specs.declared.ask.Refusal.{Refusal}
-use Rattle.desk_routes.specs.declared.ask.Refusal.TheVariants.{NoRoute, NoCaller, BadPath, BadBody, BadItem, Memory}
+use Rattle.desk_routes.specs.declared.ask.Refusal.TheVariants.{NoRoute, NoCaller, BadPath, BadBody, BadItem, TooMany, Memory}
 use Rattle.desk_routes.specs.declared.response.Response.{Response}
-use Rattle.desk_routes.specs.Asking.{◌>>=◌, or_refused, name_at, number_at, register_at, from_line, from_item, from_package, from_targets, ask_by, asking, asked_by}
+use Rattle.desk_routes.specs.Asking.{◌>>=◌, or_refused, name_at, number_at, register_at, from_line, from_item, from_package, from_targets, ask_by, asking, few_members, wire_ask, asked_by}
 use Rattle.desk_routes.specs.Rights.{right_of, may_ask}
 use Rattle.desk_routes.specs.Responses.{denial_status, answered_response, answer_response, refusal_response}
 use Rattle.desk_questions.specs.declared.answer.DeskTold as desk
 use Rattle.desk_questions.specs.Told.{desk_told}
-use Rattle.feed_http.specs.Outcome.{HttpOutcome, Seen, archive_response, desk_response, package_of, flash_outcome, package_outcome, ask_outcome, asking_outcome, read_outcome, asks, http}
+use Rattle.feed_http.specs.Outcome.{HttpOutcome, Seen, archive_response, desk_response, package_of, flash_outcome, package_outcome, ask_outcome, asking_outcome, asks, of_room, http}
 use Rattle.feed_http.specs.Turn.{Comes, whole, full, failed, starved}
-use Rattle.feed_http.specs.Laws.{is_given, is_package, reads_package, asks_package, IsBefore, IsToldBy}
+use Rattle.feed_http.specs.Laws.{is_given, is_package, asks_package, IsBefore, IsToldBy}
 
 -- ---- no request is refused for want of memory by its definition
 
@@ -66,6 +73,7 @@ then_none (Err NoCaller) next none each = tt
 then_none (Err BadPath) next none each = tt
 then_none (Err (BadBody property)) next none each = tt
 then_none (Err (BadItem fault)) next none each = tt
+then_none (Err TooMany) next none each = tt
 then_none (Err Memory) next none each = none
 
 path_none : {A : Type 0} (found : Option A) → NoMemory (or_refused BadPath found)
@@ -110,6 +118,9 @@ ask_none the.Publication caller path body = then_none (number_at 2 path) _ (path
 ask_none the.Things caller path body = then_none (register_at 2 path) _ (register_none path) (λ kind. tt)
 ask_none the.ThingsAfter caller path body = then_none (register_at 2 path) _ (register_none path) (λ kind. then_none (name_at 4 path) _ (path_none _) (λ after. tt))
 ask_none the.PublicationsAfter caller path body = then_none (number_at 2 path) _ (path_none _) (λ item. then_none (number_at 5 path) _ (path_none _) (λ after. tt))
+ask_none the.Wire caller path body = tt
+ask_none the.AgencyWire caller path body = tt
+ask_none the.AgencyItems caller path body = tt
 ask_none the.Metrics caller path body = tt
 
 route_none : (found : Option Route) → NoMemory (or_refused NoRoute found)
@@ -123,13 +134,39 @@ caller_none (Some name) = tt
 asking_none : (route : Route) (r : HttpRequest) → NoMemory (asking route r)
 asking_none route r = then_none (or_refused NoCaller r.user) _ (caller_none r.user) (λ caller. then_none (ask_by route caller r.target r.body) _ (ask_none route caller r.target r.body) (λ asked. tt))
 
+few_or_many : (few : Bool) (members : List BodyMember) → NoMemory (cond {A = Result (List BodyMember) Refusal} few (Ok members) (Err TooMany))
+few_or_many true members = tt
+few_or_many false members = tt
+
+members_none : (members : List BodyMember) → NoMemory (few_members members)
+members_none members = few_or_many (nat_le (length members) 4096) members
+
+wire_none : (given : IngestFormat) (r : HttpRequest) → NoMemory (wire_ask given r)
+wire_none given r =
+    then_none (or_refused NoCaller r.user) _ (caller_none r.user)
+    (λ caller. then_none (name_at 2 r.target) _ (path_none _) (λ provider. then_none (few_members (members_of given r.body)) _ (members_none (members_of given r.body)) (λ members. tt)))
+
 asked_none : (route : Route) (r : HttpRequest) → NoMemory (asked_by route r)
 asked_none the.Metrics r = tt
+asked_none the.Wire r = then_none (wire_ask format.Wire r) _ (wire_none format.Wire r) (λ w. tt)
+asked_none the.AgencyWire r = then_none (wire_ask format.AgencyWire r) _ (wire_none format.AgencyWire r) (λ w. tt)
+asked_none the.AgencyItems r = then_none (wire_ask format.AgencyItems r) _ (wire_none format.AgencyItems r) (λ w. tt)
 asked_none route r = then_none (asking route r) _ (asking_none route r) (λ a. tt)
 
 read_none : (r : HttpRequest) → NoMemory (asks r)
 unfolding asks
 read_none r = then_none (or_refused NoRoute _) _ (route_none _) (λ route. asked_none route r)
+
+-- the same of what is asked in one turn
+room_none : (read : Result RoomAsk Refusal) → NoMemory (of_room read) → NoMemory read
+room_none (Ok a) none = tt
+room_none (Err NoRoute) none = tt
+room_none (Err NoCaller) none = tt
+room_none (Err BadPath) none = tt
+room_none (Err (BadBody property)) none = tt
+room_none (Err (BadItem fault)) none = tt
+room_none (Err TooMany) none = tt
+room_none (Err Memory) none = none
 
 -- ---- statuses
 
@@ -155,12 +192,13 @@ told_given (told.Unknown thing) = refl
 told_given (told.NoPublication count) = refl
 told_given _ = refl
 
-refusal_given : (refusal : Refusal) → NoMemory {A = HttpAsked} (Err refusal) → HasStatus (refusal_response refusal)
+refusal_given : (refusal : Refusal) → NoMemory {A = RoomAsk} (Err refusal) → HasStatus (refusal_response refusal)
 refusal_given NoRoute none = refl
 refusal_given NoCaller none = refl
 refusal_given BadPath none = refl
 refusal_given (BadBody property) none = refl
 refusal_given (BadItem fault) none = refl
+refusal_given TooMany none = refl
 refusal_given Memory none = absurd none
 
 found_given : (t : archive.Told) → HasStatus (archive_response t)
@@ -191,15 +229,29 @@ either_given : (b : Bool) (o p : HttpOutcome) → HasStatus o.response → HasSt
 either_given true o p one other = one
 either_given false o p one other = other
 
-read_given : (store : Bytes) (h : History) (read : Result HttpAsked Refusal) (reading : ℕ) (seen : Seen) → NoMemory read → HasStatus (read_outcome store h read reading seen).response
-unfolding read_outcome asking_outcome
-read_given store h (Ok (By a)) reading seen none = either_given (may_ask h a.caller (right_of a.ask)) _ _ (ask_given store h a.ask (moment_at h reading)) refl
-read_given store h (Ok Metrics) reading seen none = refl
-read_given store h (Err refusal) reading seen none = refusal_given refusal none
+http_given : (store : Bytes) (h : History) (read : Result RoomAsk Refusal) (reading : ℕ) (seen : Seen) → NoMemory read → HasStatus (http store h read reading seen).response
+unfolding http asking_outcome
+http_given store h (Ok (By a)) reading seen none = either_given (may_ask h a.caller (right_of a.ask)) _ _ (ask_given store h a.ask (moment_at h reading)) refl
+http_given store h (Ok Metrics) reading seen none = refl
+http_given store h (Err refusal) reading seen none = refusal_given refusal none
 
-pub outcome_given : (store : Bytes) (h : History) (request : HttpRequest) (reading : ℕ) (seen : Seen) → HasStatus (http store h request reading seen).response
+pub outcome_given : (store : Bytes) (h : History) (request : HttpRequest) (read : Result RoomAsk Refusal) (reading : ℕ) (seen : Seen) → asks request ≡ of_room read → HasStatus (http store h read reading seen).response
+outcome_given store h request read reading seen is = http_given store h read reading seen (room_none read (subst (λ (x : Result HttpAsked Refusal). NoMemory x) is (read_none request)))
+
+-- where there was no memory to read what is asked
+abbrev IsUnread : Response → Type 0
+IsUnread response = response.status ≡ 507
+
+given_or_unread : (store : Bytes) (h : History) (read : Result RoomAsk Refusal) (reading : ℕ) (seen : Seen) → HasStatus (http store h read reading seen).response ⊎ IsUnread (http store h read reading seen).response
 unfolding http
-outcome_given store h request reading seen = read_given store h (asks request) reading seen (read_none request)
+given_or_unread store h (Ok a) reading seen = inl (http_given store h (Ok a) reading seen tt)
+given_or_unread store h (Err NoRoute) reading seen = inl refl
+given_or_unread store h (Err NoCaller) reading seen = inl refl
+given_or_unread store h (Err BadPath) reading seen = inl refl
+given_or_unread store h (Err (BadBody property)) reading seen = inl refl
+given_or_unread store h (Err (BadItem fault)) reading seen = inl refl
+given_or_unread store h (Err TooMany) reading seen = inl refl
+given_or_unread store h (Err Memory) reading seen = inr refl
 
 -- ---- at most one entry follows, or of a package two: the first is its tick's
 
@@ -240,11 +292,11 @@ either_few : (package_asked b : Bool) (o p : HttpOutcome) → HasFew package_ask
 either_few package_asked true o p one other = one
 either_few package_asked false o p one other = other
 
-read_few : (store : Bytes) (h : History) (read : Result HttpAsked Refusal) (reading : ℕ) (seen : Seen) → HasFew (reads_package read) (read_outcome store h read reading seen).adds
-unfolding read_outcome asking_outcome
-read_few store h (Ok (By a)) reading seen = either_few (is_package a.ask) (may_ask h a.caller (right_of a.ask)) _ _ (ask_few store h a.ask (moment_at h reading)) tt
-read_few store h (Ok Metrics) reading seen = tt
-read_few store h (Err refusal) reading seen = tt
+http_few : (store : Bytes) (h : History) (read : Result RoomAsk Refusal) (reading : ℕ) (seen : Seen) → HasFew (asks_package read) (http store h read reading seen).adds
+unfolding http asking_outcome
+http_few store h (Ok (By a)) reading seen = either_few (is_package a.ask) (may_ask h a.caller (right_of a.ask)) _ _ (ask_few store h a.ask (moment_at h reading)) tt
+http_few store h (Ok Metrics) reading seen = tt
+http_few store h (Err refusal) reading seen = tt
 
 -- before the last of them
 before_one : (b : Bool) (more : List Entry) (next : Entry) (rest : List Entry) → HasFew b (more ++ next ∷ rest) → IsBefore b more
@@ -270,8 +322,22 @@ apart s k given is not = let e : is_given k ≡ true = subst (λ (x : ℕ). is_g
 differs : (test : ℕ → Bool) (s i k : ℕ) → s ≡ i → s ≡ k → test i ≡ true → test k ≡ false → ⊥
 differs test s i k one other holds fails = false≢true (sym fails ∙ ap test (sym other ∙ one) ∙ holds)
 
-tells : (b : Bool) (n : Beside) (o : HttpOutcome) (more : List Entry) (response : Response) → HasStatus o.response → HasFew b o.adds → Comes n o more response → IsToldBy b n o more response
-tells b n o more response status few (whole is given) =
+tells : (b : Bool) (n : Beside) (o : HttpOutcome) (more : List Entry) (response : Response) → HasStatus o.response ⊎ IsUnread o.response → HasFew b o.adds → Comes n o more response → IsToldBy b n o more response
+tells b n o more response (inr unread) few (whole is given) =
+    let s : response.status ≡ 507 = ap (λ (r : Response). r.status) is ∙ unread in
+    record {
+      given = λ t. absurd (apart response.status 507 t s refl);
+      full = λ t. absurd (differs (λ x. x == 507) response.status 507 508 s t refl refl);
+      failed = λ t. absurd (differs (λ x. x == 507) response.status 507 503 s t refl refl);
+      starved = λ t. record {
+        rest = [];
+        is = sym given.whole.is ∙ sym (append-nil more);
+        before = inl refl;
+        given = subst (λ (l : List Entry). Given n (limit_for o.adds) l more) (sym given.whole.is) given;
+      };
+      each = inr (inr s);
+    }
+tells b n o more response (inl status) few (whole is given) =
     let s : HasStatus response = subst HasStatus (sym is) status in
     record {
       given = λ t. (is, given);
@@ -308,10 +374,6 @@ tells b n o more response status few (starved rest is first given) =
       each = inr (inr s);
     }
 
-http_few : (store : Bytes) (h : History) (request : HttpRequest) (reading : ℕ) (seen : Seen) → HasFew (asks_package request) (http store h request reading seen).adds
-unfolding http
-http_few store h request reading seen = read_few store h (asks request) reading seen
-
-pub statuses_tell : (n : Beside) (store : Bytes) (h : History) (request : HttpRequest) (reading : ℕ) (seen : Seen) (more : List Entry) (response : Response) → Comes n (http store h request reading seen) more response
-    → IsToldBy (asks_package request) n (http store h request reading seen) more response
-statuses_tell n store h request reading seen more response came = tells (asks_package request) n (http store h request reading seen) more response (outcome_given store h request reading seen) (http_few store h request reading seen) came
+pub statuses_tell : (n : Beside) (store : Bytes) (h : History) (read : Result RoomAsk Refusal) (reading : ℕ) (seen : Seen) (more : List Entry) (response : Response) → Comes n (http store h read reading seen) more response
+    → IsToldBy (asks_package read) n (http store h read reading seen) more response
+statuses_tell n store h read reading seen more response came = tells (asks_package read) n (http store h read reading seen) more response (given_or_unread store h read reading seen) (http_few store h read reading seen) came

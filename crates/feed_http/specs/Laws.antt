@@ -10,20 +10,20 @@ use Rattle.news_room.specs.Steps.{Given, Refused, Failed}
 use Rattle.http_wire.specs.declared.request.HttpRequest.{HttpRequest}
 use Rattle.desk_routes.specs.declared.ask.HttpAsk.{HttpAsk}
 use Rattle.desk_routes.specs.declared.ask.HttpAsk.TheVariants.{Package}
-use Rattle.desk_routes.specs.declared.ask.HttpAsked.{HttpAsked}
-use Rattle.desk_routes.specs.declared.ask.HttpAsked.TheVariants.{By, Metrics}
+use Rattle.desk_routes.specs.declared.ask.RoomAsk.{RoomAsk}
+use Rattle.desk_routes.specs.declared.ask.RoomAsk.TheVariants.{By, Metrics}
 use Rattle.desk_routes.specs.declared.ask.Refusal.{Refusal}
 use Rattle.desk_routes.specs.declared.response.Response.{Response}
-use Rattle.feed_http.specs.Outcome.{HttpOutcome, Seen, asks, http}
+use Rattle.feed_http.specs.Outcome.{HttpOutcome, Seen, asks, of_room, http}
 use Rattle.feed_http.specs.Turn.{Comes}
 
--- the statuses of what the list answers
+-- the statuses of what the list answers, and of what is refused before it is asked
 abbrev pub is_given : ℕ → Bool
-is_given status = status == 200 || status == 400 || status == 403 || status == 404 || status == 409
+is_given status = status == 200 || status == 400 || status == 403 || status == 404 || status == 409 || status == 413
 
--- an outcome has one of these
+-- the outcome of what a request asks in one turn, or of why it is refused, has one of these
 abbrev pub OutcomesAreGiven : Type 0
-OutcomesAreGiven = (store : Bytes) (h : History) (request : HttpRequest) (reading : ℕ) (seen : Seen) → IsTrue (is_given (http store h request reading seen).response.status)
+OutcomesAreGiven = (store : Bytes) (h : History) (request : HttpRequest) (read : Result RoomAsk Refusal) (reading : ℕ) (seen : Seen) → asks request ≡ of_room read → IsTrue (is_given (http store h read reading seen).response.status)
 
 -- ---- packages, of which two entries follow: the tick's and the flash
 
@@ -31,14 +31,10 @@ abbrev pub is_package : HttpAsk → Bool
 is_package (Package caller number described) = true
 is_package _ = false
 
-abbrev pub reads_package : Result HttpAsked Refusal → Bool
-reads_package (Ok (By a)) = is_package a.ask
-reads_package (Ok Metrics) = false
-reads_package (Err refusal) = false
-
--- the request asks for a package
-abbrev pub asks_package : HttpRequest → Bool
-asks_package request = reads_package (asks request)
+abbrev pub asks_package : Result RoomAsk Refusal → Bool
+asks_package (Ok (By a)) = is_package a.ask
+asks_package (Ok Metrics) = false
+asks_package (Err refusal) = false
 
 -- what was kept before an entry that was not: nothing, or of a package the entry of its tick
 abbrev pub IsBefore : Bool → List Entry → Type 0
@@ -76,5 +72,5 @@ pub record IsToldBy (package_asked : Bool) (n : Beside) (o : HttpOutcome) (more 
   pub each : (IsTrue (is_given response.status) ⊎ (response.status ≡ 508)) ⊎ ((response.status ≡ 503) ⊎ (response.status ≡ 507))
 
 abbrev pub StatusesTell : Type 0
-StatusesTell = (n : Beside) (store : Bytes) (h : History) (request : HttpRequest) (reading : ℕ) (seen : Seen) (more : List Entry) (response : Response)
-    → Comes n (http store h request reading seen) more response → IsToldBy (asks_package request) n (http store h request reading seen) more response
+StatusesTell = (n : Beside) (store : Bytes) (h : History) (read : Result RoomAsk Refusal) (reading : ℕ) (seen : Seen) (more : List Entry) (response : Response)
+    → Comes n (http store h read reading seen) more response → IsToldBy (asks_package read) n (http store h read reading seen) more response

@@ -25,12 +25,14 @@ use Rattle.http_wire.specs.declared.request.HttpRequest.{HttpRequest}
 use Rattle.desk_routes.specs.declared.ask.HttpAsk.{HttpAsk}
 use Rattle.desk_routes.specs.declared.ask.HttpAsk.TheVariants as ask
 use Rattle.desk_routes.specs.declared.ask.Asking.{Asking}
+use Rattle.desk_routes.specs.declared.ask.RoomAsk.{RoomAsk}
+use Rattle.desk_routes.specs.declared.ask.RoomAsk.TheVariants.{By, Metrics}
 use Rattle.desk_routes.specs.declared.ask.HttpAsked.{HttpAsked}
-use Rattle.desk_routes.specs.declared.ask.HttpAsked.TheVariants.{By, Metrics}
+use Rattle.desk_routes.specs.declared.ask.HttpAsked.TheVariants.{Room}
 use Rattle.desk_routes.specs.declared.ask.Refusal.{Refusal}
 use Rattle.desk_routes.specs.declared.response.Response.{Response}
 use Rattle.desk_routes.specs.declared.response.Notice.TheVariants as notice
-use Rattle.desk_routes.specs.Asking.{asked}
+use Rattle.desk_routes.specs.Asking.{asked, IsSaid}
 use Rattle.desk_routes.specs.Rights.{right_of, may_ask}
 use Rattle.desk_routes.specs.Responses.{bare, told_as, metrics_response, denial_response, answered_response, answer_response, refusal_response, notice_response}
 
@@ -136,20 +138,24 @@ ask_outcome store h (ask.Desk question) m = told_behind h m (question_response q
 unfoldable pub asking_outcome : Bytes → History → Asking → ℕ → HttpOutcome
 asking_outcome store h a m = if may_ask h a.caller (right_of a.ask) then ask_outcome store h a.ask m else unasked (notice_response notice.Forbidden)
 
--- the metrics are told of the list as it is, and keep nothing
-unfoldable pub read_outcome : Bytes → History → Result HttpAsked Refusal → ℕ → Seen → HttpOutcome
-read_outcome store h (Ok (By a)) reading seen = asking_outcome store h a (moment_at h reading)
-read_outcome store h (Ok Metrics) reading seen = unasked (metrics_response (metrics h reading seen.size seen.counts))
-read_outcome store h (Err refusal) reading seen = unasked (refusal_response refusal)
-
 -- what a request asks, or why it is refused before anything is asked
 unfoldable pub asks : HttpRequest → Result HttpAsked Refusal
 asks request = asked request
 
--- the response to a request, in the store of this identifier, at a list, a reading of the clock and what stands beside the list, and the
--- entries that follow
-unfoldable pub http : Bytes → History → HttpRequest → ℕ → Seen → HttpOutcome
-http store h request reading seen = read_outcome store h (asks request) reading seen
+abbrev pub of_room : Result RoomAsk Refusal → Result HttpAsked Refusal
+of_room (Ok a) = Ok (Room a)
+of_room (Err refusal) = Err refusal
+
+-- the request asks this in one turn, or is refused so before anything is asked; or there was no memory to read it
+abbrev pub IsRead : HttpRequest → Result RoomAsk Refusal → Type 0
+IsRead request read = IsSaid (asks request) (of_room read)
+
+-- The response to what is asked in one turn, or to a refusal, in the store of this identifier, at a list, a reading of the clock and what
+-- stands beside the list, and the entries that follow. The metrics are told of the list as it is, and keep nothing.
+unfoldable pub http : Bytes → History → Result RoomAsk Refusal → ℕ → Seen → HttpOutcome
+http store h (Ok (By a)) reading seen = asking_outcome store h a (moment_at h reading)
+http store h (Ok Metrics) reading seen = unasked (metrics_response (metrics h reading seen.size seen.counts))
+http store h (Err refusal) reading seen = unasked (refusal_response refusal)
 
 -- ---- what was kept
 

@@ -1,12 +1,13 @@
 -- What a connection came to.
-use Rattle.std.specs.Prelude.{◌≡◌, ◌⊎◌, ℕ, ◌++◌, List, [], length, true, Some, None}
+use Rattle.std.specs.Prelude.{◌≡◌, ◌⊎◌, ℕ, ◌++◌, List, [], length, true, Some, None, Result}
 use Rattle.news_io.specs.Faults.{Rose}
 use Rattle.news_io.specs.Source.{SourceMeaning}
 use Rattle.news_io.specs.Sink.{SinkMeaning}
 use Rattle.news_io.specs.Clock.{ClockMeaning, Gave}
-use Rattle.http_wire.specs.declared.request.HttpRequest.{HttpRequest}
 use Rattle.http_wire.specs.Requests.{Begins, Ends, at_end, head_fault, too_large, chunked_body}
 use Rattle.http_wire.specs.Writing.{WroteSome}
+use Rattle.desk_routes.specs.declared.ask.RoomAsk.{RoomAsk}
+use Rattle.desk_routes.specs.declared.ask.Refusal.{Refusal}
 use Rattle.desk_routes.specs.declared.response.Notice.{Notice}
 use Rattle.desk_routes.specs.declared.response.Notice.TheVariants as notice
 use Rattle.desk_routes.specs.Responses.{notice_response}
@@ -81,9 +82,9 @@ Causes s s' o o' _ = (s' ≡ s) × (o' ≡ o)
 
 -- ---- connections
 
--- The exchanges are the first requests of the input, each answered by what the turn before left; their responses were written, and then
+-- The exchanges are the first requests of the input, each answered in its turns by what those before left; their responses were written, and then
 -- the text of the ending.
-pub record Served {A C S O : Type 0} (turn : A → ℕ → HttpRequest → HttpAnswer → A → Type 0) (clock : ClockMeaning C) (source : SourceMeaning S) (sink : SinkMeaning O) (room room' : A) (c c' : C) (s s' : S) (o o' : O) (ended : Ended) : Type 0 where
+pub record Served {A C S O : Type 0} (turn : A → ℕ → Result RoomAsk Refusal → HttpAnswer → A → Type 0) (clock : ClockMeaning C) (source : SourceMeaning S) (sink : SinkMeaning O) (room room' : A) (c c' : C) (s s' : S) (o o' : O) (ended : Ended) : Type 0 where
   pub exchanges : List Exchange
   pub tail : List ℕ
   pub left : List ℕ

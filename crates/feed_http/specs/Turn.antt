@@ -13,11 +13,12 @@ use Rattle.news_room.specs.Stands.{Stands, limit_for, numbers}
 use Rattle.news_room.specs.Steps.{Given, Refused, Failed, ToldStep}
 use Rattle.news_room.specs.Events.{IsEvent}
 use Rattle.news_room.specs.declared.room.Room.{Room}
-use Rattle.http_wire.specs.declared.request.HttpRequest.{HttpRequest}
 use Rattle.desk_routes.specs.declared.ask.HttpAsk.{HttpAsk}
 use Rattle.desk_routes.specs.declared.ask.HttpAsk.TheVariants as ask
 use Rattle.desk_routes.specs.declared.ask.Asking.{Asking}
-use Rattle.desk_routes.specs.declared.ask.HttpAsked.TheVariants.{By}
+use Rattle.desk_routes.specs.declared.ask.RoomAsk.{RoomAsk}
+use Rattle.desk_routes.specs.declared.ask.RoomAsk.TheVariants.{By, Metrics}
+use Rattle.desk_routes.specs.declared.ask.Refusal.{Refusal}
 use Rattle.desk_routes.specs.declared.response.Response.{Response}
 use Rattle.desk_routes.specs.declared.response.Notice.TheVariants as notice
 use Rattle.desk_routes.specs.Responses.{reply_response, denial_response, notice_response}
@@ -27,7 +28,7 @@ use Rattle.package_rules.specs.declared.publish.Packaged.{Packaged}
 use Rattle.package_rules.specs.Composed.{Composed}
 use Rattle.package_rules.specs.Publishing.{flash_of}
 use Rattle.feed_http.specs.declared.answers.HttpAnswer.{HttpAnswer}
-use Rattle.feed_http.specs.Outcome.{HttpOutcome, Seen, archive_response, search_response, contents_response, question_response, no_readers_response, package_of, response_to, ask_outcome, asking_outcome, asks, http, stop_behind}
+use Rattle.feed_http.specs.Outcome.{HttpOutcome, Seen, archive_response, search_response, contents_response, question_response, no_readers_response, package_of, response_to, ask_outcome, asking_outcome, http, stop_behind}
 
 -- ---- how much of an outcome came
 
@@ -67,10 +68,6 @@ pub data Comes (n : Beside) (o : HttpOutcome) (more : List Entry) (response : Re
 -- the response that tells that the keeper failed
 abbrev pub tells_failure : Response → Bool
 tells_failure response = response.status == 503
-
--- a request that is read as this
-pub record IsRead (request : HttpRequest) (a : Asking) : Type 0 where
-  pub is : asks request ≡ Ok (By a)
 
 -- what is told of a list behind a tick that was answered so: where the tick was refused nothing is told of it
 abbrev pub TellsBehind : (History → Response) → History → Answer → Response → Type 0
@@ -149,9 +146,11 @@ module _ {K : Type 0} (keeper : KeeperMeaning K) where
   abbrev pub AskingEvents : Room K → Room K → Book → List Entry → Asking → ℕ → Response → Type 0
   AskingEvents old new b more a now response = IsStill old new more ⊎ AskEvents old new b more a.ask now response
 
-  -- the events of what the request asks, or nothing was asked, as by one for the metrics
-  abbrev pub RequestEvents : Room K → Room K → Book → List Entry → HttpRequest → ℕ → Response → Type 0
-  RequestEvents old new b more request now response = IsStill old new more ⊎ ((a : Asking) × IsRead request a × AskEvents old new b more a.ask now response)
+  -- the events of what is asked, or nothing was asked of the room, as for the metrics and by a refusal
+  abbrev pub ReadEvents : Room K → Room K → Book → List Entry → Result RoomAsk Refusal → ℕ → Response → Type 0
+  ReadEvents old new b more (Ok (By a)) now response = AskingEvents old new b more a now response
+  ReadEvents old new b more (Ok Metrics) now response = IsStill old new more
+  ReadEvents old new b more (Err refusal) now response = IsStill old new more
 
   -- ---- turns
 
@@ -176,20 +175,20 @@ module _ {K : Type 0} (keeper : KeeperMeaning K) where
   abbrev pub seen_by : Room K → Tally → Seen
   seen_by room counts = record { size = keeper.used room.keeper; counts = counts }
 
-  -- the turn of a request at a reading of the clock, where this was counted before it
-  abbrev pub RequestTurn : Room K → Room K → Book → List Entry → HttpRequest → ℕ → Tally → Response → Type 0
-  RequestTurn old new b more request now counts response =
-      HttpTurn old new b more (http b.store b.list request now (seen_by old counts)) response (RequestEvents old new b more request now response)
+  -- the turn of what is asked, or of a refusal, at a reading of the clock, where this was counted before it
+  abbrev pub ReadTurn : Room K → Room K → Book → List Entry → Result RoomAsk Refusal → ℕ → Tally → Response → Type 0
+  ReadTurn old new b more read now counts response =
+      HttpTurn old new b more (http b.store b.list read now (seen_by old counts)) response (ReadEvents old new b more read now response)
 
-  -- what a request is answered in its turn, and the stop that the turn kept
-  pub record IsAnswer (old new : Room K) (b : Book) (more : List Entry) (request : HttpRequest) (now : ℕ) (counts : Tally) (answer : HttpAnswer) : Type 0 where
-    pub turn : RequestTurn old new b more request now counts answer.response
+  -- what that is answered in its turn, and the stop that the turn kept
+  pub record IsAnswer (old new : Room K) (b : Book) (more : List Entry) (read : Result RoomAsk Refusal) (now : ℕ) (counts : Tally) (answer : HttpAnswer) : Type 0 where
+    pub turn : ReadTurn old new b more read now counts answer.response
     pub stop : answer.stop ≡ stop_behind (last_stop b.list) (last_stop ((onto more b).list))
 
   -- the same for each book for which the room stood
-  abbrev pub IsAnswered : Room K → ℕ → Tally → HttpRequest → HttpAnswer → Room K → Type 0
-  IsAnswered old now counts request answer new = (more : List Entry) × ((b : Book) → Stands keeper old b → IsAnswer old new b more request now counts answer)
+  abbrev pub IsAnswered : Room K → ℕ → Tally → Result RoomAsk Refusal → HttpAnswer → Room K → Type 0
+  IsAnswered old now counts read answer new = (more : List Entry) × ((b : Book) → Stands keeper old b → IsAnswer old new b more read now counts answer)
 
   -- the same where nothing is ever counted
-  abbrev pub IsAnsweredUncounted : Room K → ℕ → HttpRequest → HttpAnswer → Room K → Type 0
-  IsAnsweredUncounted old now request answer new = IsAnswered old now nothing request answer new
+  abbrev pub IsAnsweredUncounted : Room K → ℕ → Result RoomAsk Refusal → HttpAnswer → Room K → Type 0
+  IsAnsweredUncounted old now read answer new = IsAnswered old now nothing read answer new

@@ -1,15 +1,18 @@
 //! One request of a connection, and its answer.
-ghost use Rattle.std.specs.Prelude.{◌≡◌, OnOk};
+ghost use Rattle.std.specs.Prelude.{◌≡◌, IfOk, OnOk};
 ghost use Rattle.news_io.specs.Faults.{Counts};
 ghost use Rattle.http_wire.specs.Writing.{Writes};
 ghost use Rattle.feed_http.specs.Exchanges.{response_bytes};
-ghost use Rattle.feed_http.specs.Serving.{IsTurned, IsRefused, CountsRefused};
+ghost use Rattle.desk_routes.specs.Asking.{FitsRoomAsk};
+ghost use Rattle.feed_http.specs.Serving.{TakesTurn, AnswersRequest, IsTurned, IsRefused, CountsRefused};
 
-use crate::answers::Answers;
+use crate::answers::{Answers, HttpAnswer};
 use crate::ended::Ended;
-use desk_routes::{Notice, Response, Routes, notify};
+use crate::wire::answer_wire;
+use desk_routes::{HttpAsked, Notice, Refusal, Response, RoomAsk, Routes, notify};
 use http_wire::{HttpRequest, write_response};
 use news_io::{Clock, Failed, Sink};
+use std::alloc::Global;
 
 /// What an exchange came to.
 #[derive(Clone, Copy)]
@@ -36,7 +39,42 @@ pub(crate) fn respond<O: Sink>(sink: &mut O, response: &Response) -> Result<(), 
     }
 }
 
-/// Answers a request, by one reading of the clock.
+/// Answers what is asked, or a refusal, in one turn, by one reading of the clock.
+fn answer_in_turn<A: Answers, C: Clock>(
+    alloc: Global,
+    room: &mut A,
+    clock: &mut C,
+    read: Result<RoomAsk, Refusal>,
+) -> HttpAnswer
+    requires ready { A.is_ready room.old }
+    requires fits { IfOk read FitsRoomAsk }
+    ensures taken { TakesTurn A.turn C.clock room.old room.new clock.old clock.new read result }
+    ensures ready { A.is_ready room.new }
+{
+    let now = clock.now();
+    room.answer(alloc, now, read)
+}
+
+/// Answers a request: in one turn, or, where it is a wire, each story in a turn of its own.
+fn answer_request<A: Answers, C: Clock>(
+    routes: &Routes,
+    room: &mut A,
+    clock: &mut C,
+    request: &HttpRequest,
+) -> HttpAnswer
+    requires { A.is_ready room.old }
+    ensures answered { AnswersRequest A.turn C.clock room.old room.new clock.old clock.new request.now result }
+    ensures ready { A.is_ready room.new }
+{
+    let alloc = routes.alloc();
+    match routes.read_ask(request) {
+        Ok(HttpAsked::Room(ask)) => answer_in_turn(alloc, room, clock, Ok(ask)),
+        Ok(HttpAsked::Wire(wire)) => answer_wire(alloc, room, clock, wire),
+        Err(refusal) => answer_in_turn(alloc, room, clock, Err(refusal)),
+    }
+}
+
+/// Answers a request, by readings of the clock, and writes the answer.
 pub(crate) fn exchange<A: Answers, C: Clock, O: Sink>(
     routes: &Routes,
     room: &mut A,
@@ -49,8 +87,8 @@ pub(crate) fn exchange<A: Answers, C: Clock, O: Sink>(
     ensures ready { A.is_ready room.new }
     ensures count { Counts (O.sink.faults sink.old) (O.sink.faults sink.new) result.wrote }
 {
-    let now = clock.now();
-    let answer = room.answer(routes, now, &request);
+    let answer = answer_request(routes, room, clock, &request);
+    room.count(answer.response.status);
     Turned {
         wrote: respond(sink, &answer.response),
         stop: answer.stop,

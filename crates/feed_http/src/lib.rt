@@ -13,6 +13,7 @@ mod laws;
 mod plain;
 mod telling;
 mod turn;
+mod wire;
 
 pub use answers::{Answers, HttpAnswer};
 pub use connection::serve;

@@ -7,11 +7,11 @@ use crate::answers::{Answers, HttpAnswer};
 use crate::connection::serve;
 use crate::ended::Ended;
 use crate::turn::answer_one;
-use desk_routes::Routes;
-use http_wire::HttpRequest;
+use desk_routes::{Refusal, RoomAsk, Routes};
 use news_io::{Clock, Keeper, Sink, Source};
 use news_room::Room;
 use server_counts::Counts;
+use std::alloc::Global;
 
 impl<K: Keeper> Answers for Room<K> {
     ghost use Rattle.news_room.specs.Stands.{SomeBook};
@@ -21,10 +21,12 @@ impl<K: Keeper> Answers for Room<K> {
 
     ghost turn = { IsAnsweredUncounted K.keeper };
 
-    fn answer(&mut self, routes: &Routes, now: u64, request: &HttpRequest) -> HttpAnswer {
-        let counts = Counts::new(routes.alloc());
-        answer_one(routes, self, now, &counts, request)
+    fn answer(&mut self, alloc: Global, now: u64, read: Result<RoomAsk, Refusal>) -> HttpAnswer {
+        let counts = Counts::new(alloc);
+        answer_one(alloc, self, now, &counts, read)
     }
+
+    fn count(&self, _status: u16) {}
 }
 
 /// Answers the requests of a connection by a room that nobody shares.

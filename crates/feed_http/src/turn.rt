@@ -7,12 +7,12 @@ ghost use Rattle.news_types.specs.FitsCommands.{FitsCommand};
 ghost use Rattle.news_room.specs.Stands.{Stands, SomeBook};
 ghost use Rattle.package_members.specs.Members.{make_package};
 ghost use Rattle.desk_routes.specs.declared.ask.HttpAsk.TheVariants as asked;
-ghost use Rattle.desk_routes.specs.Asking.{FitsAsk};
+ghost use Rattle.desk_routes.specs.Asking.{FitsAsk, FitsRoomAsk};
 ghost use Rattle.desk_routes.specs.Rights.{right_of, may_ask};
 ghost use Rattle.desk_routes.specs.Responses.{metrics_response};
 ghost use Rattle.server_metrics.specs.Metrics.{metrics};
 ghost use Rattle.feed_http.specs.Outcome.{contents_response, package_of, question_response, stop_behind};
-ghost use Rattle.feed_http.specs.Turn.{AskTurn, AskingTurn, IsToldAs, RequestTurn, IsAnswered};
+ghost use Rattle.feed_http.specs.Turn.{AskTurn, AskingTurn, IsToldAs, ReadTurn, IsAnswered};
 
 use crate::answers::HttpAnswer;
 use crate::telling::{
@@ -22,11 +22,10 @@ use archive_search::tell_archive;
 use desk_lines::Described;
 use desk_questions::{DeskTold, answer_desk};
 use desk_routes::{
-    Asking, Gate, HttpAsk, HttpAsked, Notice, Response, Routes, allows, gate_of, notify, refuse,
+    Asking, Gate, HttpAsk, Notice, Refusal, Response, RoomAsk, allows, gate_of, notify, refuse,
     respond_denial, right_of, told_as, told_metrics,
 };
 use desk_views::DeskQuestion;
-use http_wire::HttpRequest;
 use news_io::Keeper;
 use news_room::{Room, Ticked};
 use news_types::{Command, Denial, Incoming, Memory, Name, Query, Text};
@@ -324,22 +323,22 @@ fn answer_metrics<K: Keeper>(alloc: Global, room: &Room<K>, now: u64, counts: &C
     or_no_memory(alloc, respond_metrics(alloc, room, now, counts))
 }
 
-/// The response to a request, where this was counted before it.
+/// The response to what is asked, or to a refusal, where this was counted before it.
 #[tactic(none)]
-fn answer_request<K: Keeper>(
-    routes: &Routes,
+fn answer_read<K: Keeper>(
+    alloc: Global,
     room: &mut Room<K>,
     now: u64,
     counts: &Counts,
-    request: &HttpRequest,
+    read: Result<RoomAsk, Refusal>,
 ) -> Response
-    requires { SomeBook K.keeper room.old }
-    ensures { (more : List Entry) × ((b : Book) → Stands K.keeper room.old b → RequestTurn K.keeper room.old room.new b more request.now now counts.now result) }
+    requires stands { SomeBook K.keeper room.old }
+    requires fits { IfOk read FitsRoomAsk }
+    ensures { (more : List Entry) × ((b : Book) → Stands K.keeper room.old b → ReadTurn K.keeper room.old room.new b more read now counts.now result) }
 {
-    let alloc = routes.alloc();
-    match routes.read_ask(request) {
-        Ok(HttpAsked::By(asking)) => answer_asking(alloc, room, now, asking),
-        Ok(HttpAsked::Metrics) => answer_metrics(alloc, room, now, counts),
+    match read {
+        Ok(RoomAsk::By(asking)) => answer_asking(alloc, room, now, asking),
+        Ok(RoomAsk::Metrics) => answer_metrics(alloc, room, now, counts),
         Err(refusal) => or_no_memory(alloc, refuse(alloc, refusal)),
     }
 }
@@ -351,26 +350,27 @@ fn stop_behind(before: u64, now: u64) -> Option<u64>
     if before < now { Some(now) } else { None }
 }
 
-/// Answers a request in one turn of a room, at a reading of the clock, in seconds.
+/// Answers what is asked, or a refusal, in one turn of a room, at a reading of the clock, in seconds.
 ///
-/// What the request is refused for up to its caller's right is decided by the list as it is, and keeps nothing. So are the metrics
+/// Whether the caller has the right is decided by the list as it is; what is refused keeps nothing. So are the metrics
 /// told, of the list, of the bytes that its log uses and of what was counted before. A question, a search of the archive, what a
 /// publication holds, a question of the desk and a package come behind a tick; where that is refused, so is what is asked.
 /// Where there is no memory the status is 507, without a body; then none or all of the entries are kept that the request has, or
 /// that of a package's tick.
 #[tactic(none)]
 pub fn answer_one<K: Keeper>(
-    routes: &Routes,
+    alloc: Global,
     room: &mut Room<K>,
     now: u64,
     counts: &Counts,
-    request: &HttpRequest,
+    read: Result<RoomAsk, Refusal>,
 ) -> HttpAnswer
-    requires { SomeBook K.keeper room.old }
-    ensures { IsAnswered K.keeper room.old now counts.now request.now result room.new }
+    requires stands { SomeBook K.keeper room.old }
+    requires fits { IfOk read FitsRoomAsk }
+    ensures { IsAnswered K.keeper room.old now counts.now read result room.new }
 {
     let before = room.last_stop();
-    let response = answer_request(routes, room, now, counts, request);
+    let response = answer_read(alloc, room, now, counts, read);
     HttpAnswer {
         response,
         stop: stop_behind(before, room.last_stop()),

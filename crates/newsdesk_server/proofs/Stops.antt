@@ -1,5 +1,6 @@
 -- The stop with which the roles ended stands in the list.
-use Rattle.std.proofs.Common.{◌≡◌, ◌⊎◌, ℕ, ◌<◌, ◌+◌, Bool, true, false, cond, Some, None, List, [], ◌∷◌, ◌++◌, length, take, drop, map, nat_lt, inl, inr, refl, sym, ap, ◌∙◌, subst, append_assoc, arith}
+use Rattle.std.proofs.Common.{◌≡◌, ◌⊎◌, ℕ, ◌<◌, ◌+◌, Bool, true, false, cond, Option, Some, None, List, [], ◌∷◌, ◌++◌, length, take, drop, map, nat_lt, inl, inr, refl, sym, ap, ◌∙◌, subst, append_assoc, arith}
+use Rattle.std.specs.Option.{option_or}
 use Rattle.std.proofs.lemmas.Bool.{ltb-true}
 use Rattle.std.proofs.lemmas.List.{take-append-drop}
 use mathlib.Core.List.{IsPrefix}
@@ -16,9 +17,11 @@ use Rattle.room_lock.specs.Passes.{At, found_by, left_by, pairs}
 use Rattle.room_lock.specs.declared.view.Call.{Call}
 use Rattle.feed_http.specs.declared.ended.Ended.{Ended}
 use Rattle.feed_http.specs.Exchanges.{Exchange}
+use Rattle.feed_http.specs.Turns.{first_stop}
+use Rattle.feed_http.proofs.Answering.{stop_of_turns}
 use Rattle.feed_http.specs.Outcome.{stop_behind}
 use Rattle.feed_http.specs.Served.{IsEnd}
-use Rattle.shared_connections.specs.Connections.{Answered, exchange_of, exchanges, answered_calls, answered_holds}
+use Rattle.shared_connections.specs.Connections.{CalledTurn, turn_of, call_of, Answered, exchange_of, exchanges, answered_calls, AreAnsweredIn, answered_holds}
 use Rattle.shared_connections.specs.Turns.{IsAnsweredIn}
 use Rattle.shared_workers.specs.Tallies.{gather}
 use Rattle.shared_workers.proofs.Tallies.{gather_more}
@@ -102,18 +105,16 @@ holds_last : {S : Type 0} (calls_in : S → List Call) (holds : S → List (At �
 holds_last calls_in holds b seen [] s all = all.0
 holds_last calls_in holds b seen (r ∷ ss) s all = holds_last calls_in holds b seen ss s all.1
 
--- ---- the request that kept the stop
+-- ---- the turn that kept the stop
 
-abbrev DidAnswer : Answered → At × At → Type 0
-DidAnswer a t = IsAnsweredIn t.0 t.1 a.exchange.request a.exchange.reading a.counts a.exchange.answer
+abbrev DidAnswer : CalledTurn → At × At → Type 0
+DidAnswer t found = IsAnsweredIn found.0 found.1 t.turn.read t.turn.reading t.counts t.turn.answer
 
-module _ (b : Book) (seen : List Entry) (a : Answered) (place : ℕ) where
-  answered_stops : answered_holds a (pairs b seen (answered_calls a)) → a.exchange.answer.stop ≡ Some place → (length b.list < place) × IsStopAt (onto seen b).list place
-  answered_stops holds is =
-      let c = a.call in
+module _ (b : Book) (seen : List Entry) (place : ℕ) where
+  called_stops : (t : CalledTurn) → DidAnswer t (found_by t.call b seen, left_by t.call b seen) → t.turn.answer.stop ≡ Some place → (length b.list < place) × IsStopAt (onto seen b).list place
+  called_stops t turn is =
+      let c = t.call in
       let g : History = followed_by (take c.from seen) b.list in
-      let same : (found_by c b seen, left_by c b seen) ≡ holds.0 = cc (holds.1) in
-      let turn : DidAnswer a (found_by c b seen, left_by c b seen) = subst (λ (t : At × At). DidAnswer a t) (sym same) holds.2 in
       let left : followed_by (take c.to seen) b.list ≡ followed_by turn.more g = ap (λ (l : Book). l.list) turn.book in
       let kept : Some place ≡ stop_behind (last_stop g) (last_stop (followed_by turn.more g)) = sym is ∙ (turn.stop ∙ ap (λ (l : History). stop_behind (last_stop g) (last_stop l)) left) in
       let t = turn_stops g turn.more place kept in
@@ -121,6 +122,19 @@ module _ (b : Book) (seen : List Entry) (a : Answered) (place : ℕ) where
         omega (arith, t.0, behind_length (take c.from seen) b.list),
         stop_stays (take c.to seen) seen b.list place (drop c.to seen, take-append-drop c.to seen) there,
       )
+
+  -- of some turns the first that kept one
+  some_stops : (t : CalledTurn) (ts : List CalledTurn) (stop : Option ℕ) → t.turn.answer.stop ≡ stop → option_or stop (first_stop (map turn_of ts)) ≡ Some place
+      → DidAnswer t (found_by t.call b seen, left_by t.call b seen) → (first_stop (map turn_of ts) ≡ Some place → (length b.list < place) × IsStopAt (onto seen b).list place) → (length b.list < place) × IsStopAt (onto seen b).list place
+  some_stops t ts None is first turn rest = rest first
+  some_stops t ts (Some other) is first turn rest = called_stops t turn (is ∙ first)
+
+  turns_stop : (ts : List CalledTurn) → AreAnsweredIn ts (pairs b seen (map call_of ts)) → first_stop (map turn_of ts) ≡ Some place → (length b.list < place) × IsStopAt (onto seen b).list place
+  turns_stop [] all is = absurd (cc is)
+  turns_stop (t ∷ ts) all is = some_stops t ts t.turn.answer.stop refl is all.0 (λ later. turns_stop ts all.1 later)
+
+  answered_stops : (a : Answered) → answered_holds a (pairs b seen (answered_calls a)) → a.answer.stop ≡ Some place → (length b.list < place) × IsStopAt (onto seen b).list place
+  answered_stops a holds is = turns_stop a.turns holds.1 (sym (stop_of_turns (exchange_of a) holds.0) ∙ is)
 
 module _ {G C : Type 0} (door : DoorMeaning G) (clock : ClockMeaning C) (stands : Book → Type 0) (old new : G) (c : C) (seen : List Entry) (calls : List Call) (place : ℕ) where
   first_stops : First door clock stands old new c [] [] seen calls (Ending.Stopped place) → (b : Book) → stands b → (length b.list < place) × IsStopAt (onto seen b).list place
@@ -134,7 +148,7 @@ module _ {G C : Type 0} (door : DoorMeaning G) (clock : ClockMeaning C) (stands 
       ap (λ (l : List Conn). gather answered_in l) ends.are ∙ (gather_more answered_in ends.before ends.last ∙ (ap (λ (l : List Answered). gather answered_in ends.before ++ l) m.2 ∙ sym (append_assoc (gather answered_in ends.before) m.0 (m.1 ∷ [])))) in
       let all : AllHold answered_calls answered_holds b first.mid ((gather answered_in ends.before ++ m.0) ++ m.1 ∷ []) = subst (λ (l : List Answered). AllHold answered_calls answered_holds b first.mid l) steps (first.went.did b is) in
       let holds = holds_last answered_calls answered_holds b first.mid (gather answered_in ends.before ++ m.0) m.1 all in
-      let kept = answered_stops b first.mid m.1 place holds (ap (λ (x : Exchange). x.answer.stop) m.3 ∙ e.3) in
+      let kept = answered_stops b first.mid place m.1 holds (ap (λ (x : Exchange). x.answer.stop) m.3 ∙ e.3) in
       (kept.0, stop_stays first.mid seen b.list place first.halted.grows kept.1)
 
 -- ---- the roles

@@ -2,16 +2,15 @@
 ghost use Rattle.plain_server.specs.Rooms.{StandsForSome};
 
 use crate::hoard::Hoard;
-use desk_routes::Routes;
+use desk_routes::{Refusal, RoomAsk};
 use feed_http::{Answers, HttpAnswer, answer_one};
-use http_wire::HttpRequest;
 use news_io::MemoryKeeper;
 use news_room::Room;
 use server_counts::Counts;
 use std::alloc::Global;
 use std::io;
 
-/// A newsroom that finds no memory in the turn of every other request, of which the first is one.
+/// A newsroom that finds no memory in every other turn, of which the first is one.
 #[derive(Drop)]
 pub(crate) struct StarvedRoom {
     room: Room<MemoryKeeper>,
@@ -42,16 +41,18 @@ impl Answers for StarvedRoom {
 
     ghost is_ready = { λ starved. StandsForSome starved.room };
 
-    ghost turn = { λ old now request answer new. IsAnsweredUncounted memory_keeper old.room now request answer new.room };
+    ghost turn = { λ old now read answer new. IsAnsweredUncounted memory_keeper old.room now read answer new.room };
 
-    fn answer(&mut self, routes: &Routes, now: u64, request: &HttpRequest) -> HttpAnswer {
+    fn answer(&mut self, alloc: Global, now: u64, read: Result<RoomAsk, Refusal>) -> HttpAnswer {
         if self.starves {
             self.hoard.take_all();
         }
-        let counts = Counts::new(routes.alloc());
-        let answer = answer_one(routes, &mut self.room, now, &counts, request);
+        let counts = Counts::new(alloc);
+        let answer = answer_one(alloc, &mut self.room, now, &counts, read);
         self.hoard.give_back();
         self.starves = !self.starves;
         answer
     }
+
+    fn count(&self, _status: u16) {}
 }

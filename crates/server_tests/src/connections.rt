@@ -63,6 +63,20 @@ const REFUSED_ANSWERED: &[&[u8]] = &[
     b"HTTP/1.1 501 \r\nContent-Type: application/json\r\nContent-Length: 0\r\n\r\n",
 ];
 
+/// A provider is added, and sends a wire of two stories and a message without a number.
+const WIRE: &[&[u8]] = &[
+    b"POST /requests HTTP/1.1\r\nX-User: admin\r\nContent-Length: 50\r\n\r\n",
+    br#"{"number":1,"do":"add_provider","provider":"wire"}"#,
+    b"POST /ingest/wire/7901 HTTP/1.1\r\nX-User: admin\r\nContent-Length: 54\r\n\r\n",
+    b"\x01abc0001 3 pol\r\n\x02A\r\na\r\n\x03\x04\x01abc0002 3 pol\r\n\x02B\r\nb\r\n\x03\x04\x01abc",
+];
+
+const WIRE_ANSWERED: &[&[u8]] = &[
+    DONE,
+    b"HTTP/1.1 200 \r\nContent-Type: application/json\r\nContent-Length: 145\r\n\r\n",
+    br#"{"answer":"wire","rows":[{"answer":"done","entry":2,"item":1},{"answer":"done","entry":3,"item":2},{"answer":"fault","at":54,"what":"NoHeader"}]}"#,
+];
+
 /// A request that closes, and one behind it.
 const CLOSE: &[&[u8]] = &[b"GET /nothing HTTP/1.1\r\nConnection: close\r\n\r\n", DESK];
 
@@ -88,11 +102,17 @@ struct Row {
     ended: Ended,
 }
 
-const ANSWERED: [Row; 4] = [
+const ANSWERED: [Row; 5] = [
     Row {
         title: "a day",
         input: DAY,
         output: DAY_ANSWERED,
+        ended: Ended::Closed,
+    },
+    Row {
+        title: "a wire",
+        input: WIRE,
+        output: WIRE_ANSWERED,
         ended: Ended::Closed,
     },
     Row {
@@ -162,6 +182,44 @@ fn requests_are_answered(rt: HostRuntime) -> Result<(), Fail> {
             "{title}, byte by byte"
         );
     }
+    Ok(())
+}
+
+/// Each response counts once, and each story that was taken in for its provider.
+#[test]
+fn a_wire_counts_its_stories(rt: HostRuntime) -> Result<(), Fail> {
+    let alloc = rt.alloc();
+    let Ok(routes) = Routes::new(alloc) else {
+        return Err(Fail::new("no routes"));
+    };
+    let (shared, pass) = locked(&rt, alloc, empty_room(&rt, alloc));
+    let mut clock = steady_clock(&rt, alloc);
+    let mut source = MemorySource::new(joined(alloc, WIRE)?);
+    let mut sink = MemorySink::new(alloc);
+    let watch = Watch::new(alloc);
+    let (ended, _pass) = serve_connection(
+        &rt,
+        &routes,
+        &watch,
+        &shared,
+        pass,
+        &mut clock,
+        &mut source,
+        &mut sink,
+    );
+    assert_eq!(rt; ended, Ended::Closed);
+    let Ok(counts) = watch.counts(&rt) else {
+        return Err(Fail::new("no memory"));
+    };
+    let [answered] = counts.requests() else {
+        return Err(Fail::new("other statuses"));
+    };
+    assert_eq!(rt; answered.status, 200);
+    assert_eq!(rt; answered.count, 2);
+    let [taken] = counts.ingests() else {
+        return Err(Fail::new("other providers"));
+    };
+    assert_eq!(rt; taken.count, 2);
     Ok(())
 }
 

@@ -1,6 +1,6 @@
 -- A turn of a room, said of its list alone.
-use Rattle.std.proofs.Common.{◌≡◌, inl, inr, ℕ, Bool, false, List, [], ◌++◌, Option, Some, None, refl, sym, ap, arith}
-use Rattle.std.specs.Prelude.{nat_lt, if◌then◌else◌}
+use Rattle.std.proofs.Common.{◌≡◌, ◌⊎◌, inl, inr, ℕ, Bool, false, List, [], ◌++◌, Option, Some, None, refl, sym, ap, arith}
+use Rattle.std.specs.Prelude.{nat_lt, if◌then◌else◌, Result, Ok, Err}
 use Rattle.std.proofs.lemmas.Bool.{false≢true, le-ltb}
 use Rattle.news_types.specs.declared.entry.Entry.{Entry}
 use Rattle.news_types.specs.declared.query.Query.{Query}
@@ -16,16 +16,18 @@ use Rattle.news_room.specs.Stands.{Stands}
 use Rattle.news_room.specs.Events.{Serves, IsEvent}
 use Rattle.news_room.specs.declared.room.Room.{Room}
 use Rattle.server_counts.specs.Tally.{Tally}
-use Rattle.http_wire.specs.declared.request.HttpRequest.{HttpRequest}
 use Rattle.desk_routes.specs.declared.ask.HttpAsk.{HttpAsk}
 use Rattle.desk_routes.specs.declared.ask.HttpAsk.TheVariants as ask
+use Rattle.desk_routes.specs.declared.ask.RoomAsk.{RoomAsk}
+use Rattle.desk_routes.specs.declared.ask.RoomAsk.TheVariants.{By, Metrics}
+use Rattle.desk_routes.specs.declared.ask.Refusal.{Refusal}
 use Rattle.desk_routes.specs.declared.response.Response.{Response}
 use Rattle.feed_http.specs.declared.answers.HttpAnswer.{HttpAnswer}
 use Rattle.package_rules.specs.Composed.{Composed}
 use Rattle.package_rules.specs.Publishing.{flash_of}
 use Rattle.feed_http.specs.Outcome.{search_response, contents_response, question_response, package_of, http, stop_behind}
-use Rattle.feed_http.specs.Turn.{starved, Calls, AsksBehind, TicksAndAsks, TicksAndTells, FlashEvents, FlashesBehind, PackageEvents, AskEvents, RequestEvents, IsAnswer, IsAnswered}
-use Rattle.shared_connections.specs.Turns.{no_memory_answer, seen_by, IsListEvent, CallsList, AsksListBehind, TicksAndAsksList, TicksAndTellsList, FlashListEvents, FlashesListBehind, PackageListEvents, AskListEvents, RequestListEvents, IsAnsweredIn}
+use Rattle.feed_http.specs.Turn.{starved, Calls, AsksBehind, TicksAndAsks, TicksAndTells, IsStill, FlashEvents, FlashesBehind, PackageEvents, AskEvents, ReadEvents, IsAnswer, IsAnswered}
+use Rattle.shared_connections.specs.Turns.{no_memory_answer, seen_by, IsListEvent, CallsList, AsksListBehind, TicksAndAsksList, TicksAndTellsList, FlashListEvents, FlashesListBehind, PackageListEvents, AskListEvents, ReadListEvents, IsAnsweredIn}
 
 -- the book whose keeper need not tell it
 abbrev untold : Book → Book
@@ -111,31 +113,42 @@ module _ {K : Type 0} (keeper : KeeperMeaning K) where
   asks_listed old new b more (ask.Contents publication) now response e = tells_listed old new b more (contents_response b.store publication) now response e
   asks_listed old new b more (ask.Desk question) now response e = tells_listed old new b more (question_response question) now response e
 
-  request_listed : (old new : Room K) (b : Book) (more : List Entry) (request : HttpRequest) (now : ℕ) (response : Response) → RequestEvents keeper old new (untold b) more request now response → RequestListEvents b more request now response
-  request_listed old new b more request now response (inl still) = inl still.none
-  request_listed old new b more request now response (inr e) = inr (e.0, e.1, asks_listed old new b more e.0.ask now response e.2)
+  asking_listed : (old new : Room K) (b : Book) (more : List Entry) (a : HttpAsk) (now : ℕ) (response : Response) → IsStill keeper old new more ⊎ AskEvents keeper old new (untold b) more a now response → (more ≡ []) ⊎ AskListEvents b more a now response
+  asking_listed old new b more a now response (inl still) = inl still.none
+  asking_listed old new b more a now response (inr e) = inr (asks_listed old new b more a now response e)
+
+  read_listed : (old new : Room K) (b : Book) (more : List Entry) (read : Result RoomAsk Refusal) (now : ℕ) (response : Response) → ReadEvents keeper old new (untold b) more read now response → ReadListEvents b more read now response
+  read_listed old new b more (Ok (By a)) now response e = asking_listed old new b more a.ask now response e
+  read_listed old new b more (Ok Metrics) now response e = e.none
+  read_listed old new b more (Err refusal) now response e = e.none
+
+  -- nothing was asked
+  none_listed : (b : Book) (read : Result RoomAsk Refusal) (now : ℕ) (response : Response) → ReadListEvents b [] read now response
+  none_listed b (Ok (By a)) now response = inl refl
+  none_listed b (Ok Metrics) now response = refl
+  none_listed b (Err refusal) now response = refl
 
   -- a room's turn, between the numbers beside it
-  answer_listed : (old new : Room K) (b : Book) (more : List Entry) (request : HttpRequest) (now : ℕ) (counts : Tally) (answer : HttpAnswer)
-      → IsAnswer keeper old new b more request now counts answer → IsAnswer keeper old new (untold b) more request now counts answer
-      → IsAnsweredIn (at b (keeper.faults old.keeper) (keeper.used old.keeper)) (at (onto more b) (keeper.faults new.keeper) (keeper.used new.keeper)) request now counts answer
-  answer_listed old new b more request now counts answer told other = record {
+  answer_listed : (old new : Room K) (b : Book) (more : List Entry) (read : Result RoomAsk Refusal) (now : ℕ) (counts : Tally) (answer : HttpAnswer)
+      → IsAnswer keeper old new b more read now counts answer → IsAnswer keeper old new (untold b) more read now counts answer
+      → IsAnsweredIn (at b (keeper.faults old.keeper) (keeper.used old.keeper)) (at (onto more b) (keeper.faults new.keeper) (keeper.used new.keeper)) read now counts answer
+  answer_listed old new b more read now counts answer told other = record {
     more = more;
     book = refl;
     came = told.turn.came;
-    events = request_listed old new b more request now answer.response other.turn.events;
+    events = read_listed old new b more read now answer.response other.turn.events;
     stop = told.stop;
   }
 
   -- the work's turn, for each book
-  pub turn_listed : (old new : Room K) (request : HttpRequest) (now : ℕ) (counts : Tally) (answer : HttpAnswer) → IsAnswered keeper old now counts request answer new
+  pub turn_listed : (old new : Room K) (read : Result RoomAsk Refusal) (now : ℕ) (counts : Tally) (answer : HttpAnswer) → IsAnswered keeper old now counts read answer new
       → (more : List Entry) × ((b : Book) → Stands keeper old b → Stands keeper new (onto more b)
-      × IsAnsweredIn (at b (keeper.faults old.keeper) (keeper.used old.keeper)) (at (onto more b) (keeper.faults new.keeper) (keeper.used new.keeper)) request now counts answer)
-  turn_listed old new request now counts answer a = (
+      × IsAnsweredIn (at b (keeper.faults old.keeper) (keeper.used old.keeper)) (at (onto more b) (keeper.faults new.keeper) (keeper.used new.keeper)) read now counts answer)
+  turn_listed old new read now counts answer a = (
     a.0,
     λ b stands.
-        let told : IsAnswer keeper old new b a.0 request now counts answer = a.1 b stands in
-        let other : IsAnswer keeper old new (untold b) a.0 request now counts answer = a.1 (untold b) (stands_untold old b stands) in (told.turn.stands, answer_listed old new b a.0 request now counts answer told other),
+        let told : IsAnswer keeper old new b a.0 read now counts answer = a.1 b stands in
+        let other : IsAnswer keeper old new (untold b) a.0 read now counts answer = a.1 (untold b) (stands_untold old b stands) in (told.turn.stands, answer_listed old new b a.0 read now counts answer told other),
   )
 
   -- ---- a turn without memory
@@ -144,10 +157,10 @@ module _ {K : Type 0} (keeper : KeeperMeaning K) where
   none_behind n = ap (λ (past : Bool). if past then Some n else None) (sym (le-ltb n n (omega arith)))
 
   -- nothing is asked of the room then
-  pub starved_listed : (room : Room K) (request : HttpRequest) (now : ℕ) (counts : Tally)
+  pub starved_listed : (room : Room K) (read : Result RoomAsk Refusal) (now : ℕ) (counts : Tally)
       → (more : List Entry) × ((b : Book) → Stands keeper room b → Stands keeper room (onto more b)
-      × IsAnsweredIn (at b (keeper.faults room.keeper) (keeper.used room.keeper)) (at (onto more b) (keeper.faults room.keeper) (keeper.used room.keeper)) request now counts no_memory_answer)
-  starved_listed room request now counts = (
+      × IsAnsweredIn (at b (keeper.faults room.keeper) (keeper.used room.keeper)) (at (onto more b) (keeper.faults room.keeper) (keeper.used room.keeper)) read now counts no_memory_answer)
+  starved_listed room read now counts = (
     [],
     λ b stands.
         let before = at b (keeper.faults room.keeper) (keeper.used room.keeper) in (
@@ -155,8 +168,8 @@ module _ {K : Type 0} (keeper : KeeperMeaning K) where
           record {
             more = [];
             book = refl;
-            came = starved (http b.store b.list request now (seen_by before counts)).adds refl refl (record { whole = record { is = refl; calm = refl; grown = omega arith }; within = tt });
-            events = inl refl;
+            came = starved (http b.store b.list read now (seen_by before counts)).adds refl refl (record { whole = record { is = refl; calm = refl; grown = omega arith }; within = tt });
+            events = none_listed b read now no_memory_answer.response;
             stop = none_behind (last_stop b.list);
           },
         ),

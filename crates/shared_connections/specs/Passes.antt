@@ -1,5 +1,5 @@
 -- A turn of the lock by a pass that may not be at hand.
-use Rattle.std.specs.Prelude.{◌≡◌, ℕ, List, [], Option, Some, None}
+use Rattle.std.specs.Prelude.{◌≡◌, ℕ, List, [], Option, Some, None, Result}
 use Rattle.news_types.specs.declared.entry.Entry.{Entry}
 use Rattle.news_types.specs.Books.{Book}
 use Rattle.news_io.specs.Keeper.{KeeperMeaning}
@@ -10,7 +10,8 @@ use Rattle.room_lock.specs.Locks.{front, calls, lock_of, id_of, start_of}
 use Rattle.room_lock.specs.Passes.{IsTurn, found_by, left_by}
 use Rattle.news_room.specs.Stands.{Stands}
 use Rattle.news_room.specs.declared.room.Room.{Room}
-use Rattle.http_wire.specs.declared.request.HttpRequest.{HttpRequest}
+use Rattle.desk_routes.specs.declared.ask.RoomAsk.{RoomAsk}
+use Rattle.desk_routes.specs.declared.ask.Refusal.{Refusal}
 use Rattle.server_counts.specs.Tally.{Tally}
 use Rattle.feed_http.specs.declared.answers.HttpAnswer.{HttpAnswer}
 use Rattle.shared_connections.specs.Turns.{IsAnsweredIn}
@@ -29,10 +30,10 @@ abbrev pub HasPass : {T : Type 0} → Shared T → Option Pass → Type 0
 HasPass shared None = ⊥
 HasPass shared (Some pass) = lock_of pass ≡ id_of shared
 
--- one call more of the same lock, in which the request is answered, where this was counted before it
-pub record TakesTurn {K : Type 0} (keeper : KeeperMeaning K) (shared shared' : Shared (Room K)) (pass pass' : Option Pass) (now : ℕ) (request : HttpRequest) (answer : HttpAnswer) : Type 0 where
+-- one call more of the same lock, in which what is asked is answered, where this was counted before it
+pub record TakesTurn {K : Type 0} (keeper : KeeperMeaning K) (shared shared' : Shared (Room K)) (pass pass' : Option Pass) (now : ℕ) (read : Result RoomAsk Refusal) (answer : HttpAnswer) : Type 0 where
   pub same : shared' ≡ shared
   pub call : Call
   pub turn : IsTurn (front_in pass) (calls_in pass) (front_in pass') (calls_in pass') call
   pub counts : Tally
-  pub did : (b : Book) → Stands keeper (start_of shared) b → IsAnsweredIn (found_by call b (front_in pass')) (left_by call b (front_in pass')) request now counts answer
+  pub did : (b : Book) → Stands keeper (start_of shared) b → IsAnsweredIn (found_by call b (front_in pass')) (left_by call b (front_in pass')) read now counts answer

@@ -1,5 +1,5 @@
--- What a request's turn makes of a list, and the turn as events of the world.
-use Rattle.std.specs.Prelude.{◌≡◌, ◌⊎◌, ℕ, List, [], ◌++◌, Option, Some, None}
+-- What a turn makes of a list, and the turn as events of the world.
+use Rattle.std.specs.Prelude.{◌≡◌, ◌⊎◌, ℕ, List, [], ◌++◌, Option, Some, None, Result, Ok, Err}
 use Rattle.news_types.specs.declared.entry.Entry.{Entry}
 use Rattle.news_types.specs.declared.query.Query.{Query}
 use Rattle.news_types.specs.Names.{Bytes}
@@ -11,10 +11,11 @@ use Rattle.feed_frames.specs.Writer.{the_writer}
 use Rattle.room_lock.specs.Passes.{At}
 use Rattle.news_room.specs.Beside.{Beside, beside}
 use Rattle.server_counts.specs.Tally.{Tally, nothing}
-use Rattle.http_wire.specs.declared.request.HttpRequest.{HttpRequest}
 use Rattle.desk_routes.specs.declared.ask.HttpAsk.{HttpAsk}
 use Rattle.desk_routes.specs.declared.ask.HttpAsk.TheVariants as ask
-use Rattle.desk_routes.specs.declared.ask.Asking.{Asking}
+use Rattle.desk_routes.specs.declared.ask.RoomAsk.{RoomAsk}
+use Rattle.desk_routes.specs.declared.ask.RoomAsk.TheVariants.{By, Metrics}
+use Rattle.desk_routes.specs.declared.ask.Refusal.{Refusal}
 use Rattle.desk_routes.specs.declared.response.Response.{Response}
 use Rattle.desk_routes.specs.declared.response.Notice.TheVariants.{NoMemory}
 use Rattle.desk_routes.specs.Responses.{notice_response}
@@ -22,7 +23,7 @@ use Rattle.package_rules.specs.Composed.{Composed}
 use Rattle.package_rules.specs.Publishing.{flash_of}
 use Rattle.feed_http.specs.declared.answers.HttpAnswer.{HttpAnswer}
 use Rattle.feed_http.specs.Outcome.{search_response, contents_response, question_response, package_of, response_to, http, stop_behind, Seen}
-use Rattle.feed_http.specs.Turn.{IsTold, Comes, IsRead, TellsBehind}
+use Rattle.feed_http.specs.Turn.{IsTold, Comes, TellsBehind}
 
 -- ---- the events of a turn
 
@@ -91,9 +92,11 @@ AskListEvents b more (ask.Package caller number described) now response = Packag
 AskListEvents b more (ask.Contents publication) now response = TicksAndTellsList b more (contents_response b.store publication) now response
 AskListEvents b more (ask.Desk question) now response = TicksAndTellsList b more (question_response question) now response
 
--- the events of what the request asks, or nothing was asked, as by one for the metrics
-abbrev pub RequestListEvents : Book → List Entry → HttpRequest → ℕ → Response → Type 0
-RequestListEvents b more request now response = (more ≡ []) ⊎ ((a : Asking) × IsRead request a × AskListEvents b more a.ask now response)
+-- the events of what is asked, or nothing was asked of the list, as for the metrics and by a refusal
+abbrev pub ReadListEvents : Book → List Entry → Result RoomAsk Refusal → ℕ → Response → Type 0
+ReadListEvents b more (Ok (By a)) now response = (more ≡ []) ⊎ AskListEvents b more a.ask now response
+ReadListEvents b more (Ok Metrics) now response = more ≡ []
+ReadListEvents b more (Err refusal) now response = more ≡ []
 
 -- ---- turns
 
@@ -114,13 +117,13 @@ no_memory_answer = record { response = notice_response NoMemory; stop = None }
 abbrev pub seen_by : At → Tally → Seen
 seen_by before counts = record { size = before.used; counts = counts }
 
--- What a request is answered in a turn, at a reading of the clock, by the list that the turn found and by what was counted before it: an
--- outcome of the request came, beside the turn's own numbers, its entries are the turn's, and these were its events. The answer has the
+-- What is asked, or a refusal, is answered in a turn, at a reading of the clock, by the list that the turn found and by what was counted
+-- before it: its outcome came, beside the turn's own numbers, its entries are the turn's, and these were its events. The answer has the
 -- stop that the turn kept.
-pub record IsAnsweredIn (before after : At) (request : HttpRequest) (now : ℕ) (counts : Tally) (answer : HttpAnswer) : Type 0 where
+pub record IsAnsweredIn (before after : At) (read : Result RoomAsk Refusal) (now : ℕ) (counts : Tally) (answer : HttpAnswer) : Type 0 where
   -- the entries that the turn kept, oldest first
   pub more : List Entry
   pub book : after.book ≡ onto more before.book
-  pub came : Comes (of_turn before after) (http before.book.store before.book.list request now (seen_by before counts)) more answer.response
-  pub events : RequestListEvents before.book more request now answer.response
+  pub came : Comes (of_turn before after) (http before.book.store before.book.list read now (seen_by before counts)) more answer.response
+  pub events : ReadListEvents before.book more read now answer.response
   pub stop : answer.stop ≡ stop_behind (last_stop before.book.list) (last_stop after.book.list)

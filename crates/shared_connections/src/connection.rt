@@ -15,16 +15,16 @@ use room_lock::{Pass, Shared};
 use server_watch::Watch;
 use std::sync::Wait;
 
-/// Answers the requests of a connection, in order, each in one turn of the room's lock. Each answer has passed on before the
-/// next request is read.
+/// Answers the requests of a connection, in order, each in one turn of the room's lock, and of a wire each story in a turn of
+/// its own. Each answer has passed on before the next request is read.
 ///
-/// The bytes written are the responses to the first requests of the connection's bytes, each by the list that its turn found,
+/// The bytes written are the responses to the first requests of the connection's bytes, each by the lists that its turns found,
 /// and behind them the answer of what is no request; or a beginning of that where the sink failed. A stop that a turn kept
-/// ends the connection before all else, with its place in the list. The returned pass has one call more for each answered
-/// request.
+/// ends the connection before all else, with its place in the list. The returned pass has one call more for each turn.
 ///
-/// In the watch it counts the answers, the faults of the log that they tell, and the items of providers. Where there is no memory
-/// for what was counted before a turn, nothing is asked in it, and it is answered as where there is no memory.
+/// In the watch it counts the answers, the faults of the log that they tell, and the items of providers, those of a wire one
+/// by one. Where there is no memory for what was counted before a turn, nothing is asked in it, and it is answered as where
+/// there is no memory.
 pub fn serve_connection<K: Keeper + Drop, C: Clock, S: Source, O: Sink, R: Wait>(
     rt: &R,
     routes: &Routes,

@@ -1,70 +1,80 @@
-//! The work of a request's turn.
-ghost use Rattle.std.specs.Prelude.{◌≡◌};
+//! The work of a turn.
+ghost use Rattle.std.specs.Prelude.{◌≡◌, IfOk};
+ghost use Rattle.desk_routes.specs.Asking.{FitsRoomAsk};
+ghost use Rattle.shared_connections.specs.Fits.{fits_prop};
 ghost use Rattle.shared_connections.specs.Turns.{no_memory_answer};
 
-use desk_routes::{Notice, Routes, notify};
+use desk_routes::{Notice, Refusal, RoomAsk, notify};
 use feed_http::{HttpAnswer, answer_one};
-use http_wire::HttpRequest;
 use news_io::Keeper;
 use news_room::Room;
 use room_lock::Work;
 use server_counts::Counts;
+use std::alloc::Global;
+use std::mem;
 
 /// What is answered where there is no memory.
-fn no_memory(routes: &Routes) -> HttpAnswer
+fn no_memory(alloc: Global) -> HttpAnswer
     ensures { result ≡ no_memory_answer }
 {
     HttpAnswer {
-        response: notify(routes.alloc(), Notice::NoMemory),
+        response: notify(alloc, Notice::NoMemory),
         stop: None,
     }
 }
 
-/// A request, and what it is answered.
+/// What is asked, or why it is refused, and what it is answered.
 #[derive(Drop)]
-pub(crate) struct Serving<'a> {
-    routes: &'a Routes,
-    request: &'a HttpRequest,
+pub(crate) struct Serving {
+    alloc: Global,
+    /// What is asked; behind the turn, nothing.
+    read: Result<RoomAsk, Refusal>,
     /// The reading of the clock, in seconds.
     now: u64,
     /// The counts that it is answered by, or none: there was no memory for them.
     counts: Option<Counts>,
     /// What it is answered; until a turn was taken, that there is no memory.
     pub(crate) answer: HttpAnswer,
+    ghost fits: { IfOk read FitsRoomAsk } by { fits_prop read },
 }
 
-impl<'a> Serving<'a> {
+impl Serving {
     ghost use Rattle.std.specs.Prelude.{◌≡◌};
 
     pub(crate) fn new(
-        routes: &'a Routes,
-        request: &'a HttpRequest,
+        alloc: Global,
+        read: Result<RoomAsk, Refusal>,
         now: u64,
         counts: Option<Counts>,
-    ) -> Serving<'a>
-        ensures { (result.request.now ≡ request.now) × (result.now ≡ now) }
+    ) -> Serving
+        requires { IfOk read FitsRoomAsk }
+        ensures { (result.read ≡ read) × (result.now ≡ now) }
     {
         Serving {
-            routes,
-            request,
+            alloc,
+            read,
             now,
             counts,
-            answer: no_memory(routes),
+            answer: no_memory(alloc),
         }
     }
 }
 
-impl<'a, K: Keeper> Work<Room<K>> for Serving<'a> {
+impl<K: Keeper> Work<Room<K>> for Serving {
     ghost use Rattle.shared_connections.specs.Turns.{IsAnsweredIn, at_hand};
 
-    ghost does = { λ old before new after. IsAnsweredIn before after old.request.now old.now (at_hand old.counts) new.answer };
+    ghost does = { λ old before new after. IsAnsweredIn before after old.read old.now (at_hand old.counts) new.answer };
 
     fn turn(&mut self, room: &mut Room<K>) {
+        let read = mem::replace(&mut self.read, Err(Refusal::Memory));
         match &self.counts {
             Some(counts) => {
-                self.answer = answer_one(self.routes, room, self.now, counts, self.request);
+                self.answer = answer_one(self.alloc, room, self.now, counts, read);
             }
-            None => self.answer = no_memory(self.routes),
+            None => {
+                drop(read);
+                self.answer = no_memory(self.alloc);
+            }
         }
     }
 }

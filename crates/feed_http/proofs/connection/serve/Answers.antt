@@ -4,9 +4,10 @@ use Rattle.news_io.specs.Faults.{Counts}
 use Rattle.news_io.specs.declared.faults.Failed.{Failed}
 use Rattle.desk_routes.specs.declared.response.Notice.TheVariants as notice
 use Rattle.feed_http.specs.declared.ended.Ended.TheVariants as ended
+use Rattle.feed_http.specs.Exchanges.{exchange_of}
 use Rattle.feed_http.specs.Served.{notice_bytes, Refuses}
 use Rattle.feed_http.specs.Serving.{Running}
-use Rattle.feed_http.proofs.Connections.{exchange_of, begins_none, wrote_tail, all_last, goes_on, ends_with, last_of, tried_last, ends_now, awaits, ends_refused}
+use Rattle.feed_http.proofs.Connections.{begins_none, wrote_tail, all_last, goes_on, ends_with, last_of, tried_last, ends_now, awaits, ends_refused}
 use Rattle.feed_http.proofs.connection.serve.Goals as goal
 
 calm_from : (before now : ℕ) (r : Result (Unit {0}) Failed) (u : Unit {0}) → Counts before now r → r ≡ Ok u → now ≡ before
@@ -35,7 +36,7 @@ returns-in-Some-clause-served g c =
     let turned = c.exchange-turned.ensures.turned in
     let few : c.loop-count.count < 64 = omega (arith, c.loop-count-test.true) in
     ends_with g.A.Answers.turn g.C.Clock.clock g.S.Source.source g.O.Sink.sink c.read_request.new.source c.read_request.new.buffer (ended.Stopped c.in-Some.place) run c.in-Request.ensures.wire turned
-    (refl, exchange_of c.in-Request.request turned.reading turned.answer, last_of g.A.Answers.turn g.C.Clock.clock g.S.Source.source g.O.Sink.sink run turned few, sym turned.stop ∙ c.in-Some.is)
+    (refl, exchange_of c.in-Request.request turned.answered.taken turned.answered.turns turned.answer, last_of g.A.Answers.turn g.C.Clock.clock g.S.Source.source g.O.Sink.sink run turned few, sym turned.stop ∙ c.in-Some.is)
     (λ h. tried_last g.A.Answers.turn g.C.Clock.clock g.S.Source.source g.O.Sink.sink run turned c.loop-count.invariant.calm_out c.exchange-turned.ensures.count h)
 
 pub returns-in-Err-clause-served : goal.returns-in-Err-clause-served
@@ -44,7 +45,7 @@ returns-in-Err-clause-served g c =
     let turned = c.exchange-turned.ensures.turned in
     let few : c.loop-count.count < 64 = omega (arith, c.loop-count-test.true) in
     ends_with g.A.Answers.turn g.C.Clock.clock g.S.Source.source g.O.Sink.sink c.read_request.new.source c.read_request.new.buffer ended.WriteFault run c.in-Request.ensures.wire turned
-    (inl (refl, exchange_of c.in-Request.request turned.reading turned.answer, last_of g.A.Answers.turn g.C.Clock.clock g.S.Source.source g.O.Sink.sink run turned few, sym turned.stop ∙ c.in_default-stop.is))
+    (inl (refl, exchange_of c.in-Request.request turned.answered.taken turned.answered.turns turned.answer, last_of g.A.Answers.turn g.C.Clock.clock g.S.Source.source g.O.Sink.sink run turned few, sym turned.stop ∙ c.in_default-stop.is))
     (λ h. tried_last g.A.Answers.turn g.C.Clock.clock g.S.Source.source g.O.Sink.sink run turned c.loop-count.invariant.calm_out c.exchange-turned.ensures.count h)
 
 pub returns-then-turned-clause-served : goal.returns-then-turned-clause-served
@@ -53,7 +54,7 @@ returns-then-turned-clause-served g c =
     let turned = c.exchange-turned.ensures.turned in
     let few : c.loop-count.count < 64 = omega (arith, c.loop-count-test.true) in
     ends_with g.A.Answers.turn g.C.Clock.clock g.S.Source.source g.O.Sink.sink c.read_request.new.source c.read_request.new.buffer ended.Closed run c.in-Request.ensures.wire turned
-    (refl, inr (exchange_of c.in-Request.request turned.reading turned.answer, last_of g.A.Answers.turn g.C.Clock.clock g.S.Source.source g.O.Sink.sink run turned few, sym turned.close ∙ c.if-turned.true, sym turned.stop ∙ c.in_default-stop.is))
+    (refl, inr (exchange_of c.in-Request.request turned.answered.taken turned.answered.turns turned.answer, last_of g.A.Answers.turn g.C.Clock.clock g.S.Source.source g.O.Sink.sink run turned few, sym turned.close ∙ c.if-turned.true, sym turned.stop ∙ c.in_default-stop.is))
     (λ h. wrote_tail g.O.Sink.sink c.args.sink.now c.exchange-turned.new.sink _ (all_last g.A.Answers.turn g.C.Clock.clock g.S.Source.source g.O.Sink.sink c.in_default-wrote.field-0 run turned c.in_default-wrote.is h))
 
 pub returns-in-HeadFault-clause-served : goal.returns-in-HeadFault-clause-served

@@ -4,12 +4,15 @@ use Rattle.news_types.specs.Books.{onto}
 use Rattle.feed_http.specs.Outcome.{stop_behind}
 use Rattle.feed_http.proofs.turn.answer_one.Goals as goal
 
-pub answer_request-response-requires : goal.answer_request-response-requires
-answer_request-response-requires g c = c.requires
+pub answer_read-response-requires-clause-stands : goal.answer_read-response-requires-clause-stands
+answer_read-response-requires-clause-stands g c = c.requires.stands
+
+pub answer_read-response-requires-clause-fits : goal.answer_read-response-requires-clause-fits
+answer_read-response-requires-clause-fits g c = c.requires.fits
 
 pub returns : goal.returns
 returns g c =
-    let r = c.answer_request-response.ensures in (
+    let r = c.answer_read-response.ensures in (
       r.0,
       λ b stands.
           let turn = r.1 b stands in

@@ -3,5 +3,5 @@ use Rattle.feed_http.proofs.plain.RoomAnswers.answer.Goals as goal
 
 pub returns-clause-ready : goal.returns-clause-ready
 returns-clause-ready g c =
-    let did = c.answer_one.ensures.1 c.requires.0 c.requires.1 in
-    (onto c.answer_one.ensures.0 c.requires.0, did.turn.stands)
+    let did = c.answer_one.ensures.1 c.requires.ready.0 c.requires.ready.1 in
+    (onto c.answer_one.ensures.0 c.requires.ready.0, did.turn.stands)

@@ -6,10 +6,10 @@ use Rattle.plain_server.proofs.starved.StarvedRoomAnswers.answer.Goals.{then-sel
 
 pub returns-clause-ready : goal.returns-clause-ready
 returns-clause-ready c =
-    let asked : Stands memory_keeper c.if-self.self.room c.requires.0 =
+    let asked : Stands memory_keeper c.if-self.self.room c.requires.ready.0 =
     elim c.if-self.branch [
-      | then-self w ↦ rw w.self-is c.requires.1
-      | else-self w ↦ rw w.self-is c.requires.1
+      | then-self w ↦ rw w.self-is c.requires.ready.1
+      | else-self w ↦ rw w.self-is c.requires.ready.1
     ] in
-    let did = c.answer_one-answer.ensures.1 c.requires.0 asked in
-    (onto c.answer_one-answer.ensures.0 c.requires.0, did.turn.stands)
+    let did = c.answer_one-answer.ensures.1 c.requires.ready.0 asked in
+    (onto c.answer_one-answer.ensures.0 c.requires.ready.0, did.turn.stands)

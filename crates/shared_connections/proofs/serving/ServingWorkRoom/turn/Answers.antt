@@ -3,8 +3,8 @@ use Rattle.shared_connections.proofs.Listed.{turn_listed, starved_listed}
 use Rattle.shared_connections.proofs.serving.ServingWorkRoom.turn.Goals as goal
 
 pub returns-in-Some : goal.returns-in-Some
-returns-in-Some g c = rw c.in-Some.is (turn_listed g.K.Keeper.keeper c.args.room.now c.answer_one.new.room c.args.self.now.request.now c.args.self.now.now c.in-Some.counts c.answer_one.result c.answer_one.ensures)
+returns-in-Some g c = rw c.in-Some.is (turn_listed g.K.Keeper.keeper c.args.room.now c.answer_one.new.room c.args.self.now.read c.args.self.now.now c.in-Some.counts c.answer_one.result c.answer_one.ensures)
 
 -- nothing is asked where there is no memory for the counts
 pub returns-in-None : goal.returns-in-None
-returns-in-None g c = rw c.no_memory.ensures (starved_listed g.K.Keeper.keeper c.args.room.now c.args.self.now.request.now c.args.self.now.now (at_hand c.args.self.now.counts))
+returns-in-None g c = rw c.no_memory.ensures (starved_listed g.K.Keeper.keeper c.args.room.now c.args.self.now.read c.args.self.now.now (at_hand c.args.self.now.counts))
