@@ -4,6 +4,7 @@ use Rattle.news_types.specs.Books.{Book}
 use Rattle.news_types.specs.declared.entry.Entry.{Entry}
 use Rattle.news_types.specs.declared.query.Query.TheVariants as query
 use Rattle.command_words.specs.declared.words.IngestFormat.{IngestFormat}
+use Rattle.command_words.specs.declared.words.IngestFormat.TheVariants as format
 use Rattle.news_types.specs.Names.{Bytes}
 use Rattle.news_types.specs.History.{History}
 use Rattle.news_types.specs.Frames.{Writer}
@@ -29,6 +30,7 @@ use Rattle.room_runs.specs.Members.{MembersAnswered}
 use Rattle.room_runs.specs.Batch.{InputAnswered}
 use Rattle.room_runs.specs.Wires.{wire_hand}
 use Rattle.newsdesk_cli.specs.Command.{HasAnswered, Does}
+use Rattle.newsdesk_cli.specs.Ingests.{IngestAnswered, answer_of}
 use Rattle.command_words.specs.declared.words.Job.{Job}
 use Rattle.command_words.specs.declared.words.Job.TheVariants.{Batch, Ingest, Import, Package, Feed, Queue, Drain}
 use Rattle.program_events.specs.Events.{Input, line_input}
@@ -102,10 +104,16 @@ module _ {D S O C : Type 0} (disk : DiskMeaning D) (clock : ClockMeaning C) (sou
   pub batch_events : (did : Answered (λ room after b. InputAnswered (pair_of disk) clock source sink room after c c' i i' o o' b 65 status)) → AnswersAreEvents disk clock source sink log log' side side' i i' o o' c c' status line_input did
   batch_events did = members_happened disk clock source sink line_hand of_line line_input (line_means 65) log log' side side' i i' o o' c c' status did
 
-  pub ingest_events : (format : IngestFormat) (provider : Bytes) (did : Answered (λ room after b. IngestAnswered (pair_of disk) clock source sink provider format room after c c' i i' o o' b 65 status))
-      → AnswersAreEvents disk clock source sink log log' side side' i i' o o' c c' status (ingest_input format provider) did
-  ingest_events format provider did =
-      members_happened disk clock source sink wire_hand (answer_of format provider) (ingest_input format provider) (ingest_means 65 provider format) log log' side side' i i' o o' c c' status did
+  pub ingest_events : (given : IngestFormat) (provider : Bytes) (did : Answered (λ room after b. IngestAnswered (pair_of disk) clock source sink provider given room after c c' i i' o o' b 65 status))
+      → AnswersAreEvents disk clock source sink log log' side side' i i' o o' c c' status (ingest_input given provider) did
+  ingest_events format.Wire provider did =
+      members_happened disk clock source sink wire_hand (answer_of format.Wire provider) (ingest_input format.Wire provider) (ingest_means 65 provider format.Wire) log log' side side' i i' o o' c c' status did
+  ingest_events format.Item provider did =
+      members_happened disk clock source sink wire_hand (answer_of format.Item provider) (ingest_input format.Item provider) (ingest_means 65 provider format.Item) log log' side side' i i' o o' c c' status did
+  ingest_events format.AgencyWire provider did =
+      members_happened disk clock source sink wire_hand (answer_of format.AgencyWire provider) (ingest_input format.AgencyWire provider) (ingest_means 65 provider format.AgencyWire) log log' side side' i i' o o' c c' status did
+  ingest_events format.AgencyItems provider did =
+      members_happened disk clock source sink wire_hand (answer_of format.AgencyItems provider) (ingest_input format.AgencyItems provider) (ingest_means 65 provider format.AgencyItems) log log' side side' i i' o o' c c' status did
 
   module _ {L : Type 0} (link : LinkMeaning L) (l l' : List L) where
     pub are_events : (job : Option Job) → (did : Does disk clock source sink link log log' side side' i i' o o' c c' l l' status job) → AreEvents disk clock source sink log log' side side' i i' o o' c c' status link l l' job did

@@ -21,7 +21,7 @@ use Rattle.agency_wires.specs.Reading.{told, wrong, or_fault, incoming_of, head_
 use Rattle.agency_items.specs.declared.fault.ItemFault.{ItemFault}
 use Rattle.agency_runs.specs.Members.{of_message, of_told, of_read}
 use Rattle.command_words.specs.declared.words.IngestFormat.{IngestFormat}
-use Rattle.command_words.specs.declared.words.IngestFormat.TheVariants.{Wire, Item, AgencyWire, AgencyItems}
+use Rattle.command_words.specs.declared.words.IngestFormat.TheVariants as format
 use Rattle.newsdesk_cli.specs.Ingests.{answer_of}
 use Rattle.world_laws.specs.World.{World, run}
 use Rattle.news_room.specs.Steps.{entries}
@@ -183,8 +183,8 @@ module _ (start : ℕ) (provider : Bytes) where
   told_means = record { next = next_told; server = told_server; adds = told_adds; took = told_took; text = told_text_is; only = told_only }
 
   -- by the format
-  pub ingest_means : (format : IngestFormat) → Means (answer_of format provider start) (ingest_input format provider)
-  ingest_means Wire = wire_means
-  ingest_means Item = item_means
-  ingest_means AgencyWire = message_means
-  ingest_means AgencyItems = told_means
+  pub ingest_means : (given : IngestFormat) → Means (answer_of given provider start) (ingest_input given provider)
+  ingest_means format.Wire = wire_means
+  ingest_means format.Item = item_means
+  ingest_means format.AgencyWire = message_means
+  ingest_means format.AgencyItems = told_means

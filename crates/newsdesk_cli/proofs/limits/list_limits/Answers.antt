@@ -31,7 +31,7 @@ returns-in-Ok g c =
           (room_holds d c.args.log c.args.side c.in-Ok.room room told told'));
       told =
           let holds = room.holds false (λ is. absurd (false≢true is)) in
-          subst (λ (n : ℕ). IsWrittenOut g.O.Sink.sink (limits_lines room.history n) c.args.output.old c.tell_limits-status.new.output c.tell_limits-status.result) holds.uses
+          subst (λ (n : ℕ). IsWrittenOut g.O.Sink.sink (limits_lines room.history n) c.args.output.now c.tell_limits-status.new.output c.tell_limits-status.result) holds.uses
           (c.tell_limits-status.ensures (record { store = room.store; told = false; list = room.history }) holds.stands);
     })
 
