@@ -1,5 +1,5 @@
 -- Members that are kept one after the other, of all that a body has.
-use Rattle.std.proofs.Common.{◌≡◌, ℕ, ◌<◌, ◌≤◌, ◌+◌, List, [], ◌∷◌, ◌++◌, map, length, take, drop, refl, sym, ap, ◌∙◌, append_assoc, arith, subst}
+use Rattle.std.proofs.Common.{◌≡◌, ℕ, ◌≤◌, List, [], ◌∷◌, ◌++◌, map, length, take, drop, refl, sym, ap, ◌∙◌, append_assoc, arith, subst}
 use Rattle.std.proofs.lemmas.List.{append-nil, map-append, length-append, take-append-drop, nil_from_length}
 use Rattle.wire_bodies.specs.declared.member.BodyMember.{BodyMember}
 use Rattle.wire_bodies.specs.declared.member.BodyFault.{BodyFault}

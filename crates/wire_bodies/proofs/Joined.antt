@@ -1,5 +1,5 @@
 -- Rows with a comma between each two.
-use Rattle.std.proofs.Common.{◌≡◌, List, [], ◌∷◌, ◌++◌, ℕ, map, refl, ap, sym, ◌∙◌, append_assoc}
+use Rattle.std.proofs.Common.{◌≡◌, List, [], ◌∷◌, ◌++◌, ℕ, map, refl, ap}
 use Rattle.std.specs.Global.{Vec}
 use Rattle.std.specs.List.{flat_map, join_by}
 

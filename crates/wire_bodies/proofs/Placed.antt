@@ -6,7 +6,6 @@ use Rattle.agency_wires.specs.declared.found.Found.TheVariants as found
 use Rattle.agency_wires.specs.Messages.{messages}
 use Rattle.agency_runs.specs.Places.{IsPlaced}
 use Rattle.agency_runs.proofs.Places.{messages_placed}
-use Rattle.wire_bodies.specs.declared.member.BodyMember.{BodyMember}
 use Rattle.wire_bodies.specs.Bodies.{agency_member, FitsMember}
 
 placed_fits : (x : Found) → IsPlaced x → FitsMember (agency_member x)

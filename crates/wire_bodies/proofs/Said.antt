@@ -2,8 +2,6 @@
 use Rattle.std.proofs.Common.{◌≡◌, ℕ, List, None, Result, Ok, Err, refl, sym, ap, ◌∙◌}
 use Rattle.news_types.specs.Names.{Bytes}
 use Rattle.news_types.specs.declared.story.Incoming.{Incoming}
-use Rattle.news_types.specs.declared.text.Memory.{Memory}
-use Rattle.line_run.specs.declared.answering.Stopped.{Stopped}
 use Rattle.ninjs_text.specs.declared.fault.NinjsFault.{NinjsFault}
 use Rattle.ninjs_text.specs.declared.fault.NinjsFault.TheVariants as fault_is
 use Rattle.ninjs_text.specs.Reading.{IsRead}
@@ -12,7 +10,6 @@ use Rattle.agency_runs.specs.Told.{IsTold}
 use Rattle.agency_runs.specs.declared.messages.Told.{Told}
 use Rattle.agency_runs.specs.declared.messages.Told.TheVariants as told_is
 use Rattle.desk_answers.specs.Answers.{fault_bytes}
-
 use Rattle.wire_run.specs.Members.{fault_word, fault_property}
 use Rattle.wire_bodies.specs.declared.member.BodyMember.{BodyMember}
 use Rattle.wire_bodies.specs.declared.member.BodyMember.TheVariants.{Line}
@@ -34,11 +31,10 @@ pub fault_member : (said : Result Incoming NinjsFault) (fault : NinjsFault) (lin
     → line_of line ≡ item_member said
 fault_member said fault line real is text = ap line_of text ∙ ap item_member (sym (said_fault said fault real is))
 
+abbrev told_line : List ℕ → Result Incoming Bytes
+told_line bytes = Err bytes
+
 -- what a message was told is what it comes to
 pub told_message : (at : ℕ) (said : Result Incoming WireFault) (told : Told) → IsTold at said (Ok told) → IsToldAt (message_told at said) (Ok told)
 told_message at said (told_is.Story incoming) is = (ap (message_told at) is.0, is.1)
-told_message at said (told_is.Line text) is =
-    ap (message_told at) is.1.1.0 ∙ ap (λ (l : List ℕ). err_of l) (sym is.1.1.1)
-  where
-    abbrev err_of : List ℕ → Result Incoming Bytes
-    err_of l = Err l
+told_message at said (told_is.Line text) is = ap (message_told at) is.1.1 ∙ ap told_line (sym is.1.2)
