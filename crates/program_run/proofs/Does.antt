@@ -58,7 +58,7 @@ module _ {D S O C L : Type 0} (m : Meanings D S O C L) (before after : Outside D
 
   -- the digest of a list's first entries
   digests : (entries : ℕ) (list : History) → IsDigest m.sink entries list before.output after.output number → Digests newsroom_formats m before after entries list number
-  digests entries list (inl fewer) = inl (fewer.fewer, is_stopped m.sink [] before.output after.output number trouble.WrongStore fewer.stopped)
+  digests entries list (inl fewer) = inl (fewer.fewer, fewer.stopped)
   digests entries list (inr told) = inr (told.enough, told.told)
 
   -- only `drain` and `ship` change the links
