@@ -150,6 +150,13 @@ module _ {A C : Type 0} (turn : A → ℕ → Result RoomAsk Refusal → HttpAns
 
   -- ---- as the rows are read from a list of what is left
 
+  pub row_starves : (room mid : A) (c cmid c' : C) (wire : WireAsk) (rest left : List BodyMember) (member : BodyMember) (texts : List Bytes) (stop : Option ℕ) (reading : ℕ)
+      → HasRows turn clock room mid c cmid wire.caller wire.provider wire.members rest texts stop → rest ≡ member ∷ left → (ending response : Response) → ending ≡ notice_response NoMemory
+      → (clock.tells cmid → clock.tells c') → (clock.tells cmid → Gave (clock.ahead cmid) (reading ∷ []) (clock.ahead c')) → IsEndedAs texts ending response
+      → AnswersWire turn clock room mid c c' wire (record { response = response; stop = stop })
+  row_starves room mid c cmid c' wire rest left member texts stop reading has is ending response none on gave told =
+      starved_wire wire reading ending response (subst (λ (l : List BodyMember). HasRows turn clock room mid c cmid wire.caller wire.provider wire.members l texts stop) is has) (inr (refl, none)) on gave told
+
   module _ (room mid new : A) (c cmid c' : C) (wire : WireAsk) (rest left : List BodyMember) (member : BodyMember) (texts : List Bytes) (stop stop' : Option ℕ) (reading : ℕ) (came : Came) where
     abbrev Has : Type 0
     Has = HasRows turn clock room mid c cmid wire.caller wire.provider wire.members rest texts stop
@@ -174,7 +181,3 @@ module _ {A C : Type 0} (turn : A → ℕ → Result RoomAsk Refusal → HttpAns
         → IsEndedAs texts ending response → stop' ≡ option_or stop came.stop → AnswersWire turn clock room new c c' wire (record { response = response; stop = stop' })
     row_ends has is answers ending response came_row on gave told stop_is =
         cut_wire wire reading answers.turns ending response stop' (next_is has is) (end_came ending answers came_row) answers.turned on gave told (stop_is ∙ ap (λ (s : Option ℕ). option_or stop s) answers.stop)
-
-    pub row_starves : Has → rest ≡ member ∷ left → (ending response : Response) → ending ≡ notice_response NoMemory → (clock.tells cmid → clock.tells c') → (clock.tells cmid → Gave (clock.ahead cmid) (reading ∷ []) (clock.ahead c'))
-        → IsEndedAs texts ending response → AnswersWire turn clock room mid c c' wire (record { response = response; stop = stop })
-    row_starves has is ending response none on gave told = starved_wire wire reading ending response (next_is has is) (inr (refl, none)) on gave told

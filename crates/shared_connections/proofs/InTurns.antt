@@ -1,5 +1,5 @@
 -- The turns of a connection as the steps of its pass.
-use Rattle.std.specs.Prelude.{map, Result}
+use Rattle.std.specs.Prelude.{map, length, Result}
 use Rattle.std.proofs.Common.{◌≡◌, ℕ, List, [], ◌∷◌, ◌++◌, Option, refl, sym, ap, ◌∙◌, subst}
 use Rattle.std.proofs.lemmas.List.{append-nil}
 use Rattle.news_types.specs.declared.entry.Entry.{Entry}
@@ -24,7 +24,7 @@ use Rattle.http_wire.specs.Requests.{Begins}
 use Rattle.feed_http.specs.declared.answers.HttpAnswer.{HttpAnswer}
 use Rattle.feed_http.specs.declared.ended.Ended.{Ended}
 use Rattle.feed_http.specs.Turns.{Turn, InTurns}
-use Rattle.feed_http.specs.Exchanges.{Exchange, IsExchange, Turns, requests, readings, responses}
+use Rattle.feed_http.specs.Exchanges.{Exchange, exchange_of as made_of, IsExchange, Turns, requests, readings, responses}
 use Rattle.feed_http.specs.Served.{Served, IsEnd, IsWritten}
 use Rattle.shared_connections.specs.Passes.{front_in, calls_in, TakesTurn}
 use Rattle.shared_connections.specs.Turns.{IsAnsweredIn}
@@ -59,7 +59,7 @@ one_step : (stands : Book → Type 0) (seen : List Entry) (calls : List Call) (s
 one_step stands seen calls seen' calls' a is w = record {
   calls_are = w.calls_are ∙ ap (λ (l : List Call). calls ++ l) (step_calls a);
   grows = w.grows;
-  order = subst (λ (l : List Call). InOrder _ l _) (step_calls a) w.order;
+  order = subst (λ (l : List Call). InOrder (length seen) l (length seen')) (step_calls a) w.order;
   did = λ b stood. ((is, turns_did b seen' a.turns (w.did b stood)), tt);
 }
 
@@ -129,7 +129,7 @@ module _ {K A : Type 0} (keeper : KeeperMeaning K) (shared_of : A → Shared (Ro
       let mid : A = t.0 in
       let first : CalledAs old mid x.turns = called_as old mid x.turns t.2 in
       let a : Answered = record { request = x.request; taken = x.taken; turns = first.called; answer = x.answer } in
-      let is_x : exchange_of a ≡ x = ap (λ (ts : List Turn). record { request = x.request; taken = x.taken; turns = ts; answer = x.answer }) first.same in
+      let is_x : exchange_of a ≡ x = ap (λ (ts : List Turn). made_of x.request x.taken ts x.answer) first.same in
       let rest : AnsweredAs mid new xs = answered_as mid new xs t.3 in
       let same_lock : shared_of mid ≡ shared_of old = steps_same old mid x.turns t.2 in
       let later : WentFrom (shared_of old) mid new rest.answered = subst (λ (s : Shared (Room K)). WentFrom s mid new rest.answered) same_lock rest.went in

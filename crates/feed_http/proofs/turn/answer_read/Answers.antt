@@ -12,7 +12,7 @@ pub answer_asking-requires-clause-stands : goal.answer_asking-requires-clause-st
 answer_asking-requires-clause-stands g c = c.requires.stands
 
 pub answer_asking-requires-clause-fits : goal.answer_asking-requires-clause-fits
-answer_asking-requires-clause-fits g c = subst (λ (x : Result RoomAsk Refusal). IfOk x FitsRoomAsk) c.in-Ok-By.is c.requires.fits
+answer_asking-requires-clause-fits g c = subst (λ (x : Result RoomAsk Refusal). IfOk x FitsRoomAsk) (rw c.in-Ok-By.field-0-is at c.in-Ok-By.is) c.requires.fits
 
 pub answer_metrics-requires : goal.answer_metrics-requires
 answer_metrics-requires g c = c.requires.stands
@@ -20,12 +20,12 @@ answer_metrics-requires g c = c.requires.stands
 pub returns-in-Ok-By : goal.returns-in-Ok-By
 returns-in-Ok-By g c =
     let r = c.answer_asking.ensures in
-    read_is g.K.Keeper.keeper c.args.room.now c.answer_asking.new.room c.args.read (Ok (By c.in-Ok-By.asking)) c.args.now c.args.counts.now c.answer_asking.result c.in-Ok-By.is
+    read_is g.K.Keeper.keeper c.args.room.now c.answer_asking.new.room c.args.read (Ok (By c.in-Ok-By.asking)) c.args.now c.args.counts.now c.answer_asking.result (rw c.in-Ok-By.field-0-is at c.in-Ok-By.is)
     (r.0, λ b stands. asked_turn g.K.Keeper.keeper c.args.room.now c.answer_asking.new.room b r.0 c.in-Ok-By.asking c.args.now c.args.counts.now c.answer_asking.result (r.1 b stands))
 
 pub returns-in-Ok-Metrics : goal.returns-in-Ok-Metrics
 returns-in-Ok-Metrics g c =
-    read_is g.K.Keeper.keeper c.args.room.now c.args.room.now c.args.read (Ok Metrics) c.args.now c.args.counts.now c.answer_metrics.result c.in-Ok-Metrics.is
+    read_is g.K.Keeper.keeper c.args.room.now c.args.room.now c.args.read (Ok Metrics) c.args.now c.args.counts.now c.answer_metrics.result (rw c.in-Ok-Metrics.field-0-is at c.in-Ok-Metrics.is)
     ([], λ b stands. metrics_turn g.K.Keeper.keeper c.args.room.now b c.args.now c.args.counts.now c.answer_metrics.result stands (c.answer_metrics.ensures b stands))
 
 pub returns-in-Err : goal.returns-in-Err
