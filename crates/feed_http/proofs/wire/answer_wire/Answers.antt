@@ -35,7 +35,7 @@ pub loop-member-preserved : goal.loop-member-preserved
 loop-member-preserved g c =
     let inv = c.loop-member.invariant in
     let put : c.put_row.new.rows.items ≡ c.loop-member.rows.items ++ c.in-Ok.row ∷ [] =
-        c.put_row.ensures ∙ ap (λ (r : Vec ℕ). c.reserve.new.self.items ++ r ∷ []) c.in-Ok.row-is ∙ ap (λ (rows : List (Vec ℕ)). rows ++ c.in-Ok.row ∷ []) c.in_default.ensures.items in
+    c.put_row.ensures ∙ ap (λ (r : Vec ℕ). c.reserve.new.self.items ++ r ∷ []) c.in-Ok.row-is ∙ ap (λ (rows : List (Vec ℕ)). rows ++ c.in-Ok.row ∷ []) c.in_default.ensures.items in
     let texts : texts_of c.put_row.new.rows.items ≡ texts_of c.loop-member.rows.items ++ c.in-Ok.row.items ∷ [] = ap texts_of put ∙ map_push (λ (row : Vec ℕ). row.items) c.loop-member.rows.items c.in-Ok.row in
     record {
       ready = c.answer_member-came.ensures.ready;
