@@ -11,7 +11,7 @@ pub returns-in-Some : goal.returns-in-Some
 returns-in-Some g c =
     let keeper = g.K.Keeper.keeper in
     let answered : IsAnswered keeper c.args.room.now c.args.self.now.now c.in-Some.counts c.args.self.now.read c.answer_one.result c.answer_one.new.room =
-        subst (λ (read : Result RoomAsk Refusal). IsAnswered keeper c.args.room.now c.args.self.now.now c.in-Some.counts read c.answer_one.result c.answer_one.new.room) c.replace-read.ensures.value c.answer_one.ensures in
+    subst (λ (read : Result RoomAsk Refusal). IsAnswered keeper c.args.room.now c.args.self.now.now c.in-Some.counts read c.answer_one.result c.answer_one.new.room) c.replace-read.ensures.value c.answer_one.ensures in
     rw c.in-Some.is (turn_listed keeper c.args.room.now c.answer_one.new.room c.args.self.now.read c.args.self.now.now c.in-Some.counts c.answer_one.result answered)
 
 -- nothing is asked where there is no memory for the counts
