@@ -1,9 +1,10 @@
 #!/usr/bin/env python3
 """Random and mutated inputs over everything that newsdesk reads: hostile.py [--inputs N] [--logs N] [--seconds S] [--seed SEED] [--only KIND].
 
-`lines` are sent through `batch`, `wires` and `items` through `ingest` and as requests, `http` to `plain_server`, which serves each connection
-whole and byte by byte, `serve` to a server on loopback, `frames` to `receive`, and `logs` are stores with changed bytes that `check`,
-`batch` and `feed` are to open. What they are made from are the inputs of the gate's programs and examples/morning.jsonl.
+`lines` are sent through `batch`, `wires` and `items` through `ingest` and as requests, `agency-wires` and `agency-items` likewise, by the formats
+that read what agencies send, `http` to `plain_server`, which serves each connection whole and byte by byte, `serve` to a server on loopback,
+`frames` to `receive`, and `logs` are stores with changed bytes that `check`, `batch` and `feed` are to open. What they are made from are the
+inputs of the gate's programs and examples/morning.jsonl.
 
 No input may crash the program or keep it for more than a minute; each is answered, and what is refused is refused by name; a damaged store is
 named by a place within its file, and left as it is. A finding is printed with the seed and the round that show it, and its input is saved here:
@@ -33,9 +34,9 @@ LIMIT = 60
 # what a command that reads alone says of a log whose base a packing left to be put right
 LISTENS = rb"\S+ newsdesk: listening at 127\.0\.0\.1:\d+: ready\n"
 # what part of the inputs is of each kind
-SHARES = {"lines": 0.6, "wires": 0.25, "items": 0.06, "http": 0.06, "serve": 0.02, "frames": 0.01}
+SHARES = {"lines": 0.5, "wires": 0.15, "items": 0.05, "agency-wires": 0.16, "agency-items": 0.06, "http": 0.05, "serve": 0.02, "frames": 0.01}
 # how many inputs a round has
-LINES, MESSAGES, CONNECTIONS, RUNS, STORES = 4_000, 4_000, 40, 20, 50
+LINES, MESSAGES, LISTED, CONNECTIONS, RUNS, STORES = 4_000, 4_000, 100, 40, 20, 50
 STATUSES = {200, 400, 403, 404, 409, 413, 501, 503, 507, 508}
 MOST_FINDINGS = 10
 
@@ -83,6 +84,9 @@ ITEMS = [line.split(b" ", 2)[2] for line in ROWS if line.startswith(b"item ")]
 ITEMS += [it.partition(b"\r\n\r\n")[2] for it in REQUESTS if it.startswith(b"POST /ingest/") and b'"' in it]
 WIRES = [control(line.split(b" ", 2)[2]) for line in ROWS if line.startswith(b"wire ")]
 WIRES += [b"\x01NWS%04d %d n %d FIRST\r\nfire-%d\r\n\x02Fire %d\r\n%s\r\n\x032026-11-29T06:07:08Z\x04" % (n, n % 9 + 1, n % 7, n, n, b"Smoke. " * (n * n)) for n in range(12)]
+AGENCY_ROWS = read("crates/agency_rows/stdin").splitlines()
+AGENCY_WIRES = [control(re.sub(rb"\^x(..)", lambda it: bytes.fromhex(it[1].decode()), line)) for line in AGENCY_ROWS if line.startswith(b"^")]
+AGENCY_ITEMS = [line for line in AGENCY_ROWS if line and not line.startswith((b"#", b"^"))]
 ALWAYS = {"filter": "fires", "days": ["mon", "tue", "wed", "thu", "fri", "sat", "sun"], "from": 0, "to": 86400, "zone": "+01:00"}
 SETUP = (
     {"do": "add_user", "user": "operator", "privileges": ["stop"]},
@@ -225,11 +229,20 @@ def lines(chance, house):
 
 def wires(chance, house):
     """A wire of mutated messages."""
-    sent = [chance.choice(WIRES) for _ in range(MESSAGES)]
-    sent = [mutated(chance, it, chance.choice(WIRES), (*TEXT, insert)) if chance.random() < 0.8 else it for it in sent]
+    return ingested_wire(chance, house, "7901", WIRES)
+
+
+def agency_wires(chance, house):
+    """A wire of mutated messages as agencies send them."""
+    return ingested_wire(chance, house, "7901-any", AGENCY_WIRES + WIRES)
+
+
+def ingested_wire(chance, house, form, samples):
+    sent = [chance.choice(samples) for _ in range(MESSAGES)]
+    sent = [mutated(chance, it, chance.choice(samples), (*TEXT, insert)) if chance.random() < 0.8 else it for it in sent]
     given = b"".join(sent)
     write_store(house.folder, house.ready)
-    status, answers = newsdesk(["ingest", "store", "7901", chance.choice(("wire", "plain"))], house.folder, given)
+    status, answers = newsdesk(["ingest", "store", form, chance.choice(("wire", "plain"))], house.folder, given)
     if status:
         raise Finding(f"a wire ended with status {status}", input=given)
     _, accepted, refused = counted(answers, given, ("done",))
@@ -238,11 +251,9 @@ def wires(chance, house):
 
 def items(chance, house):
     """Mutated ninjs items: many of them as requests, and a few through `ingest`, which takes one a run."""
-    begin = request(b"/requests", b'{"number":1,"do":"add_provider","provider":"wire"}')
-    sent = [[begin, *(request(b"/ingest/wire/ninjs", mutated_item(chance)) for _ in range(60))] for _ in range(CONNECTIONS)]
-    total = counts_of(served(house, [(b"65 0", requests) for requests in sent]))
+    total = requested_items(chance, house, b"ninjs", ITEMS)
     for _ in range(RUNS // 5):
-        item = mutated_item(chance)
+        item = mutated_item(chance, ITEMS)
         write_store(house.folder, house.ready)
         status, answers = newsdesk(["ingest", "store", "ninjs", chance.choice(("wire", "plain"))], house.folder, item)
         if status or len(answers) != 1:
@@ -251,8 +262,41 @@ def items(chance, house):
     return total
 
 
-def mutated_item(chance):
-    return mutated(chance, chance.choice(ITEMS), chance.choice(ITEMS)) if chance.random() < 0.9 else chance.choice(ITEMS)
+def agency_items(chance, house):
+    """Mutated items as agencies send them: many as requests, and lists of them through `ingest`."""
+    samples = AGENCY_ITEMS + ITEMS
+    total = requested_items(chance, house, b"ninjs-any", samples)
+    for _ in range(RUNS):
+        sent = [it for it in (mutated_item(chance, samples) for _ in range(LISTED)) if is_item(it)]
+        given = b"[%s]" % b",".join(sent)
+        write_store(house.folder, house.ready)
+        status, answers = newsdesk(["ingest", "store", "ninjs-any", chance.choice(("wire", "plain"))], house.folder, given)
+        # what one reader of JSON takes in and the other does not makes the list no JSON
+        if status or len(answers) not in (len(sent), 1):
+            raise Finding(f"{len(sent)} items had {len(answers)} answers, and status {status}", input=given)
+        _, accepted, _ = counted(answers, given, ("done",))
+        total = [a + b for a, b in zip(total, (len(sent), accepted, len(sent) - accepted))]
+    return total
+
+
+def requested_items(chance, house, form, samples):
+    begin = request(b"/requests", b'{"number":1,"do":"add_provider","provider":"wire"}')
+    target = b"/ingest/wire/" + form
+    sent = [[begin, *(request(target, mutated_item(chance, samples)) for _ in range(60))] for _ in range(CONNECTIONS)]
+    return counts_of(served(house, [(b"65 0", requests) for requests in sent]))
+
+
+def mutated_item(chance, samples):
+    return mutated(chance, chance.choice(samples), chance.choice(samples)) if chance.random() < 0.9 else chance.choice(samples)
+
+
+def is_item(data):
+    """Whether these bytes are one JSON value that may stand in a list of items."""
+    try:
+        json.loads(data.decode())
+    except (ValueError, RecursionError):
+        return False
+    return not data.startswith(b"\xef\xbb\xbf")
 
 
 # ---- HTTP
@@ -467,7 +511,8 @@ def opened(words, house, store, given=b""):
 # ---- all rounds
 
 
-KINDS = {"lines": lines, "wires": wires, "items": items, "http": http, "serve": serve, "frames": frames, "logs": logs}
+KINDS = {"lines": lines, "wires": wires, "items": items, "agency-wires": agency_wires, "agency-items": agency_items}
+KINDS |= {"http": http, "serve": serve, "frames": frames, "logs": logs}
 HOUSE = None
 
 

@@ -1,5 +1,5 @@
 // The whole input is one item, or a list of items.
-ghost use Rattle.std.specs.Prelude.{◌≡◌, ◌∷◌, ◌++◌, [], ℕ, List, All, IfOk, take};
+ghost use Rattle.std.specs.Prelude.{◌≡◌, ◌∷◌, [], List, All, IfOk, take};
 ghost use Rattle.news_types.specs.Fits.{FitsIncoming};
 ghost use Rattle.line_run.specs.Turns.{Did, Causes};
 ghost use Rattle.wire_run.specs.Reading.{ENOUGH};

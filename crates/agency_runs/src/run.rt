@@ -1,5 +1,5 @@
 // The whole runs, with their status and the status line.
-ghost use Rattle.std.specs.Prelude.{◌≤◌, ◌<◌, ◌^◌, ℕ, List, length};
+ghost use Rattle.std.specs.Prelude.{◌≤◌, ◌<◌, ◌^◌, List, length};
 ghost use Rattle.news_io.specs.Faults.{Rose};
 ghost use Rattle.line_run.specs.Status.{IsRun, CrashLeaves, IsComplete};
 ghost use Rattle.agency_wires.specs.Messages.{messages};

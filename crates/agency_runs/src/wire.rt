@@ -1,5 +1,5 @@
 // The messages of a wire are answered as soon as they are decided.
-ghost use Rattle.std.specs.Prelude.{◌≡◌, ◌<◌, ◌+◌, ◌^◌, ◌++◌, ◌∷◌, [], ℕ, List, All, false, length, OnOk};
+ghost use Rattle.std.specs.Prelude.{◌≡◌, ◌<◌, ◌+◌, ◌^◌, ◌++◌, ◌∷◌, [], ℕ, List, All, length, OnOk};
 ghost use Rattle.line_run.specs.Members.{Adds, AddsLast};
 ghost use Rattle.line_run.specs.Turns.{Did, Causes};
 ghost use Rattle.agency_wires.specs.Gives.{IsUndecided};

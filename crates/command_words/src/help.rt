@@ -13,7 +13,7 @@ const BATCH: &str =
 ";
 
 const INGEST: &str =
-    "newsdesk ingest STORE FORMAT PROVIDER   take in standard input as PROVIDER sent it: FORMAT 7901-any is a wire, ninjs-any an item or a list of items, as agencies send them; 7901 and ninjs read by the letter
+    "newsdesk ingest STORE FORMAT PROVIDER   take in standard input as PROVIDER sent it: FORMAT 7901-any is a wire, ninjs-any an item or a list of items, as agencies send them; 7901 and ninjs are read by the letter
 ";
 
 const IMPORT: &str =

@@ -64,11 +64,11 @@ abbrev pub answer_status : Answer → ℕ
 answer_status (told.NoPublication count) = 404
 answer_status _ = 200
 
--- to a question: a frame as it is, and 404 where there is no such thing, publication or frame
 -- an answer that has a line
 abbrev pub line_response : Answer → Response
 line_response answer = told_as (answer_status answer) (answer_bytes answer)
 
+-- to a question: a frame as it is, and 404 where there is no such thing, publication or frame
 abbrev pub answer_response : Answer → Response
 answer_response (told.Frame bytes) = record { status = 200; media = Octets; body = bytes }
 answer_response (told.NoFrame length) = bare 404

@@ -149,7 +149,7 @@ fn router_of_all(alloc: Global) -> Result<Router<Route>, Memory>
     ensures { IfOk result (λ router. router ≡ all_paths) }
 {
     let mut router = Router::new(alloc);
-    // (each `?` beside a living router is proved with all that letting it go does: so there is one)
+    // One `?` beside a living router: each is proved with all that letting it go does.
     put_all(&mut router)?;
     Ok(router)
 }

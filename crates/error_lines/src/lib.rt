@@ -4,5 +4,5 @@
 mod line;
 mod rate;
 
-pub use line::{say, tell};
+pub use line::{say, say_usage, tell};
 pub use rate::Rate;

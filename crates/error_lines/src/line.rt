@@ -83,3 +83,11 @@ pub fn say<R: Eprint, D: Display>(rt: &R, line: &D) {
     let _ = write!(whole, "newsdesk: {line}");
     let _ = rt.eprint(whole.whole());
 }
+
+/// Says on standard error how a command is written, by its line of the help: `usage: LINE`. A line has at most 1,000 bytes and is
+/// written by one call. Where it cannot be written, nothing is said.
+pub fn say_usage<R: Eprint>(rt: &R, help: &str) {
+    let mut line = Line::new();
+    let _ = write!(line, "usage: {}", help.strip_suffix('\n').unwrap_or(help));
+    let _ = rt.eprint(line.whole());
+}

@@ -70,14 +70,11 @@ text_in row = row.text
 abbrev pub rows_response : ℕ → List Bytes → Response
 rows_response status rows = told_as status (rows_bytes rows)
 
--- what ended them is answered as it is, and behind some by its status with them
-abbrev pub ended_response : List Bytes → Response → Response
-ended_response [] response = response
-ended_response rows response = rows_response response.status rows
-
--- the same; where there was no memory for the rows, the status without them
+-- What ended them is answered as it is where there is none, and behind some by its status with them; where there was no memory for that, by the
+-- status alone.
 abbrev pub IsEndedAs : List Bytes → Response → Response → Type 0
-IsEndedAs rows ending response = (response ≡ ended_response rows ending) ⊎ (response ≡ bare ending.status)
+IsEndedAs [] ending response = response ≡ ending
+IsEndedAs rows ending response = (response ≡ rows_response ending.status rows) ⊎ (response ≡ bare ending.status)
 
 -- ---- all members
 

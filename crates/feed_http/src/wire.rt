@@ -5,7 +5,7 @@ ghost use Rattle.news_types.specs.Fits.{FitsIncoming};
 ghost use Rattle.news_types.specs.Names.{Bytes};
 ghost use Rattle.wire_bodies.specs.Bodies.{FitsMember};
 ghost use Rattle.feed_http.specs.Wires as said;
-ghost use Rattle.feed_http.specs.Wires.{rows_response, ended_response, IsEndedAs, story_turn};
+ghost use Rattle.feed_http.specs.Wires.{rows_response, IsEndedAs, story_turn};
 ghost use Rattle.feed_http.specs.Turn.{IsToldAs};
 ghost use Rattle.feed_http.specs.Serving.{CameTo, AnswersMember, AnswersWire};
 

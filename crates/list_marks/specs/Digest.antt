@@ -1,5 +1,5 @@
 -- The digest of the first entries of a list.
-use Rattle.std.specs.Prelude.{◌⊎◌, ◌<◌, ◌≤◌, ℕ, [], ◌∷◌, ◌++◌, length, take, codes, decimal}
+use Rattle.std.specs.Prelude.{◌≡◌, ◌⊎◌, ◌<◌, ◌≤◌, ℕ, [], ◌∷◌, ◌++◌, length, take, codes, decimal}
 use Rattle.std.specs.List.{flat_map}
 use Rattle.hex.specs.Hex.{encode_lower}
 use Rattle.sha2.specs.Sha256.{sha256}
@@ -30,10 +30,11 @@ module _ {O : Type 0} (sink : SinkMeaning O) (entries : ℕ) (h : History) (o o'
     pub fewer : length h < entries
     pub stopped : IsStopped sink Status.WrongStore o o' status
 
-  -- it has them, and the line of their digest was written, as far as the output allowed it
+  -- it has them, and the line of their digest was written, as far as the output allowed it; no memory was asked for
   pub record HasDigest : Type 0 where
     pub enough : entries ≤ length h
     pub told : IsWrittenOut sink (digest_line entries h) o o' status
+    pub memory : status ≡ 9 → ⊥
 
   abbrev pub IsDigest : Type 0
   IsDigest = HasFewer ⊎ HasDigest

@@ -1,6 +1,5 @@
 //! How much of each limit a room uses.
 ghost use Rattle.std.specs.Prelude.{◌≡◌, ◌++◌, string_bytes, IfOk, OnOk};
-ghost use Rattle.std.specs.List.{flat_map};
 ghost use Rattle.news_types.specs.Books.{Book};
 ghost use Rattle.news_room.specs.Stands.{Stands, SomeBook};
 ghost use Rattle.room_reports.specs.Written.{IsWrittenOut};
@@ -18,7 +17,7 @@ use std::fmt::Write;
 /// Writes a line for each limit of the store of a room, with how much of it is used, and gives the status.
 ///
 /// It is 0 where all lines were written and have passed on, 5 where the output failed, and 9 where there was no memory, with the
-/// line of that status alone. Nothing is changed.
+/// line of that status behind whole lines or none. Nothing is changed.
 pub fn tell_limits<O: Sink, K: Keeper>(alloc: Global, output: &mut O, room: &Room<K>) -> u8
     requires { SomeBook K.keeper room.now }
     ensures { (b : Book) → Stands K.keeper room.now b → IsWrittenOut O.sink (limits_lines b.list (K.keeper.used room.now.keeper)) output.old output.new result }

@@ -51,6 +51,10 @@ pub fn tell_reason<R: Clock + Eprint>(rt: &R, words: &[Text], ending: Ending) {
         return;
     };
     let (command, store) = (command.as_str(), store.as_str());
+    // `COMMAND --help` has no store.
+    if store.starts_with("--") {
+        return;
+    }
     let Some(why) = reason_of(command, ending.status) else {
         return;
     };
@@ -118,6 +122,12 @@ fn wrong_store(command: &str) -> &'static str {
 fn input(command: &str) -> &'static str {
     match command {
         "serve" => "connections could not be taken at its address: look at who listens there",
+        "import" | "package" => {
+            "standard input could not be read, and nothing was asked: give it again"
+        }
+        "ingest" => {
+            "standard input could not be read: of a wire what was answered is kept, of items nothing was taken in"
+        }
         _ => "standard input could not be read; what was answered is kept: send the rest again",
     }
 }

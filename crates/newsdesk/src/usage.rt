@@ -1,7 +1,7 @@
 //! Why words are no command, in words.
 
 use command_words::{command_help, read_options};
-use error_lines::say;
+use error_lines::{say, say_usage};
 use news_types::{Name, Text};
 use std::fmt::{self, Display, Formatter, Write};
 use uuid::Uuid;
@@ -226,7 +226,7 @@ impl Display for Wrong<'_> {
             Wrong::Missing { command, kind } => {
                 write!(
                     f,
-                    "{command}: {} is missing: {}",
+                    "{command}: {} is missing: it has to be {}",
                     kind.label(),
                     kind.wanted()
                 )
@@ -237,13 +237,13 @@ impl Display for Wrong<'_> {
                 word,
             } => write!(
                 f,
-                "{command}: `{word}` is not {}: {}",
+                "{command}: `{word}` is not {}: it has to be {}",
                 kind.label(),
                 kind.wanted()
             ),
             Wrong::NoAddress { command, name } => write!(
                 f,
-                "{command}: the address of `{name}` is missing: {}",
+                "{command}: the address of `{name}` is missing: it has to be {}",
                 Kind::Address.wanted()
             ),
             Wrong::NameTwice { command, name } => {
@@ -261,7 +261,7 @@ pub fn tell_usage<R: Eprint>(rt: &R, words: &[Text]) {
     say(rt, &wrong_of(words));
     if let [command, ..] = words {
         if let Some(line) = command_help(command.as_str()) {
-            let _ = eprint!(rt; "usage: {line}");
+            say_usage(rt, line);
         }
     }
 }

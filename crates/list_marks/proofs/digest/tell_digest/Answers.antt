@@ -20,5 +20,6 @@ returns g c h opens =
     let line = c.as_slice.ensures.value ∙ c.line_of.ensures ∙ ap (line_of c.args.entries) digest in
     inr (record {
       enough = omega (arith, as_many c.args.records.now h opens, c.if-records-entries.false);
-      told = subst (λ (l : Bytes). IsWrittenOut g.O.Sink.sink l c.args.output.now c.write_out.new.output c.write_out.result) line c.write_out.ensures;
+      told = subst (λ (l : Bytes). IsWrittenOut g.O.Sink.sink l c.args.output.now c.write_out.new.output c.write_out.result) line c.write_out.ensures.written;
+      memory = c.write_out.ensures.memory;
     })
