@@ -31,7 +31,7 @@ NEWSDESK = os.environ.get("NEWSDESK", os.path.join(TOP, "crates/newsdesk/out/new
 SERVER = os.environ.get("PLAIN_SERVER", os.path.join(TOP, "crates/plain_server/out/plain_server"))
 STORE = "6ba7b810-9dad-11d1-80b4-00c04fd430c8"
 LIMIT = 60
-# what a command that reads alone says of a log whose base a packing left to be put right
+# what a server says once it listens
 LISTENS = rb"\S+ newsdesk: listening at 127\.0\.0\.1:\d+: ready\n"
 # what part of the inputs is of each kind
 SHARES = {"lines": 0.5, "wires": 0.15, "items": 0.05, "agency-wires": 0.16, "agency-items": 0.06, "http": 0.05, "serve": 0.02, "frames": 0.01}
@@ -104,10 +104,9 @@ SETUP = (
 # ---- runs of the program
 
 
-def is_reason(status, errors):
-    """Whether a run that ended with this status may have said this on standard error: a reason and the form of its command, or nothing."""
-    lines = errors.splitlines(keepends=True)
-    return not lines or (status != 0 and all(it.startswith((b"newsdesk: ", b"usage: newsdesk ")) and it.endswith(b"\n") for it in lines))
+def are_reasons(errors):
+    """Whether a run may have said this on standard error: what it noticed of its store, why it ended so, and the form of its command."""
+    return all(it.startswith((b"newsdesk: ", b"usage: newsdesk ")) and it.endswith(b"\n") for it in errors.splitlines(keepends=True))
 
 
 def run(program, words, folder, given=b""):
@@ -119,7 +118,7 @@ def run(program, words, folder, given=b""):
         raise Finding(f"{name} had not ended after {LIMIT} seconds", input=given) from None
     if done.returncode not in range(17):
         raise Finding(f"{name} ended with status {done.returncode}", input=given, output=done.stdout, errors=done.stderr)
-    if not is_reason(done.returncode, done.stderr):
+    if not are_reasons(done.stderr):
         raise Finding(f"{name} wrote to standard error", input=given, errors=done.stderr)
     return done.returncode, done.stdout
 

@@ -24,6 +24,7 @@
 mod standby;
 mod texts;
 
+use list_marks::Unnoticed;
 use news_io::{MemoryClock, MemoryDisk, MemorySink, MemorySource};
 use news_types::{Memory, Name, Names, Text};
 use newsdesk_cli::run;
@@ -248,6 +249,7 @@ impl Session {
             side,
             &mut clock,
             &mut links,
+            &mut Unnoticed,
         );
         self.log = log;
         self.side = side;

@@ -3,6 +3,7 @@ ghost use Rattle.std.specs.Prelude.{◌≡◌, ◌≤◌, take};
 ghost use Rattle.news_io.specs.Link.{IsReply};
 
 use crate::texts::text_of;
+use list_marks::Unnoticed;
 use news_io::{
     Failed, Faults, Link, MemoryClock, MemoryDisk, MemorySink, MemorySource, UnreachableLink,
 };
@@ -97,6 +98,7 @@ impl Standby {
             side,
             &mut clock,
             &mut links,
+            &mut Unnoticed,
         );
         self.log = log;
         self.side = side;

@@ -9,6 +9,7 @@ ghost use Rattle.spoken_devices.specs.Meanings.{spoken_disk};
 
 mod descriptors;
 mod key;
+mod notices;
 mod reasons;
 mod shipping;
 mod store;
@@ -16,6 +17,7 @@ mod usage;
 
 use crate::descriptors::hold_descriptors;
 use crate::key::read_key;
+use crate::notices::StoreNotices;
 use crate::reasons::{Ending, tell_reason};
 use crate::shipping::ship_each;
 use crate::store::{Keeping, keeping_of, open_files};
@@ -25,6 +27,7 @@ use command_words::{
     version_text,
 };
 use feed_links::TcpLink;
+use list_marks::notice_room;
 use news_io::{FileDisk, Sink, StdClock, StdSink, StdSource, write_all};
 use news_pair::Pair;
 use news_types::{Memory, Name, Text};
@@ -152,7 +155,7 @@ fn start<
     words: &[Text],
     options: Options,
     output: &mut O,
-    link: TcpLink<R>,
+    link: SpokenLink<R>,
     shows: bool,
 ) -> Ending {
     if let Some(status) = tell_program(words, output) {
@@ -234,7 +237,7 @@ fn run_words<
     output: &mut O,
     log: FileDisk<R>,
     side: FileDisk<R>,
-    link: TcpLink<R>,
+    link: SpokenLink<R>,
     shows: bool,
 ) -> Result<Ending, Memory> {
     let mut input = Watched::new(
@@ -250,8 +253,17 @@ fn run_words<
     let side = Watched::new(side, None);
     let mut links = Vec::new(alloc);
     links.push(link)?;
+    let mut notices = StoreNotices::of(rt, words);
     let (status, log, _) = run(
-        alloc, words, &mut input, output, log, side, &mut clock, &mut links,
+        alloc,
+        words,
+        &mut input,
+        output,
+        log,
+        side,
+        &mut clock,
+        &mut links,
+        &mut notices,
     );
     if log.has_shown() || input.has_shown() || clock.has_shown() {
         let _ = eprintln!(rt);
@@ -344,6 +356,7 @@ fn server_of<
         Ok(room) => room,
         Err((status, _, _)) => return Err(NoServer::untold(status)),
     };
+    notice_room(alloc, &room, &mut StoreNotices::of(rt, words));
     let Ok((door, clocks, links)) = outside_of(rt, alloc, key, serving) else {
         return Err(NoServer::untold(Status::Memory));
     };
@@ -380,19 +393,19 @@ fn outside_of<R: Net<Listener = TcpListener, Stream = TcpStream> + Clock + Eprin
     let mut links = Vec::new(alloc);
     for _ in 0..serving.workers {
         clocks.push(StdClock::new(rt.clone()?))?;
-        let link = link_to(rt, alloc, serving.receivers)?;
-        links.push(SpokenLink::new(alloc, link, rt.clone()?)?)?;
+        links.push(link_to(rt, alloc, serving.receivers)?)?;
     }
     Ok((door, clocks, links))
 }
 
-/// A link to receivers, each a name and behind it its address.
-fn link_to<R: Net<Stream = TcpStream> + Clone + Drop>(
+/// A link to receivers, each a name and behind it its address, whose failures are told.
+fn link_to<R: Net<Stream = TcpStream> + Clock + Eprint + Clone + Drop>(
     rt: &R,
     alloc: Global,
     pairs: &[Text],
-) -> Result<TcpLink<R>, Memory> {
-    TcpLink::new(alloc, rt.clone()?, receivers_in(alloc, pairs)?)
+) -> Result<SpokenLink<R>, Memory> {
+    let link = TcpLink::new(alloc, rt.clone()?, receivers_in(alloc, pairs)?)?;
+    SpokenLink::new(alloc, link, rt.clone()?)
 }
 
 /// The receivers that a `drain` names, each with its address, or the standby that a `ship` names; none of another command.

@@ -2,12 +2,13 @@
 
 use crate::store::{Keeping, open_files};
 use command_words::{Job, Options, read_words};
-use feed_links::TcpLink;
+use list_marks::Unnoticed;
 use news_io::{Disk, FileDisk, Keeper, MemorySource, Sink, StdClock};
 use news_pair::{OpenedPair, Pair};
 use news_types::{Memory, Text};
 use program_run::run;
 use run_status::{Status, tell_status};
+use spoken_devices::SpokenLink;
 use std::alloc::Global;
 use std::fs::File;
 use std::net::{Net, TcpStream};
@@ -20,7 +21,7 @@ use std::time::{Clock, Duration};
 #[derive(Drop)]
 struct Shipping<R> {
     /// The link to the standby, whose connection is kept.
-    links: Vec<TcpLink<R>>,
+    links: Vec<SpokenLink<R>>,
     /// How many records the files had when the standby was last said to have them all; nothing where it was not.
     level: Option<u64>,
 }
@@ -40,7 +41,7 @@ pub fn ship_each<
     options: Options,
     seconds: u32,
     output: &mut O,
-    link: TcpLink<R>,
+    link: SpokenLink<R>,
 ) -> u8 {
     let Some(Job::Ship(_)) = read_words(words) else {
         return tell_status(output, Status::Usage);
@@ -109,6 +110,7 @@ fn ship_new<
         side,
         &mut clock,
         &mut shipping.links,
+        &mut Unnoticed,
     );
     if log.has_refused_write() {
         let _ = eprintln!(rt;

@@ -21,6 +21,7 @@ use crate::digest::digest_list;
 use crate::import::take_table;
 use crate::ingest::ingest;
 use crate::limits::list_limits;
+use crate::opening::open_noticed;
 use crate::pack::tell_packed;
 use crate::package::take_package;
 use crate::standby::ship_list;
@@ -28,6 +29,7 @@ use crate::telling::{tell_trouble, tell_usage};
 use crate::why::explain;
 use command_words::{Job, read_words};
 use feed_drill::run_drill;
+use list_marks::Notices;
 use news_io::{Clock, Disk, Failed, Keeper, Link, Sink, Source};
 use news_journal::{Header, Journal};
 use news_types::{Name, Text};
@@ -38,13 +40,14 @@ use room_runs::answer_input;
 use run_status::tell_status;
 use standby_files::stand_in;
 use std::alloc::Global;
-use store_files::{Trouble, is_empty, open_room};
+use store_files::{Trouble, is_empty};
 use uuid::Uuid;
 
 /// Does what the words ask for, and gives the status and the two disks back, the log's and the side's. Only `drain` and `ship` use
 /// the links, `ship` the first one, which has to serve its NAME; for `receive` the log is a receiver's, and `drill` leaves both alone.
+/// The notices hear of a newsroom's store that was opened, but for `limits` and what is asked of a list's past.
 #[tactic(none)]
-pub fn run<S: Source, O: Sink, D: Disk, C: Clock, L: Link>(
+pub fn run<S: Source, O: Sink, D: Disk, C: Clock, L: Link, N: Notices>(
     alloc: Global,
     words: &[Text],
     input: &mut S,
@@ -53,6 +56,7 @@ pub fn run<S: Source, O: Sink, D: Disk, C: Clock, L: Link>(
     side: D,
     clock: &mut C,
     links: &mut Vec<L>,
+    notices: &mut N,
 ) -> (u8, D, D)
     ensures does { Does D.disk C.clock S.source O.sink L.link log result.1 side result.2 input.old input.new output.old output.new clock.old clock.new links.old.items links.new.items result.0 (job_of words.now) }
     // Files that open to a list are never told to be another store's, but where `ask` is given more entries than it has, nor damaged; and a
@@ -68,12 +72,12 @@ pub fn run<S: Source, O: Sink, D: Disk, C: Clock, L: Link>(
     let Some(job) = read_words(words) else {
         return (tell_usage(output), log, side);
     };
-    do_job(alloc, job, input, output, log, side, clock, links)
+    do_job(alloc, job, input, output, log, side, clock, links, notices)
 }
 
 /// Does what a command asks for.
 #[tactic(none)]
-fn do_job<S: Source, O: Sink, D: Disk, C: Clock, L: Link>(
+fn do_job<S: Source, O: Sink, D: Disk, C: Clock, L: Link, N: Notices>(
     alloc: Global,
     job: Job<'_>,
     input: &mut S,
@@ -82,6 +86,7 @@ fn do_job<S: Source, O: Sink, D: Disk, C: Clock, L: Link>(
     side: D,
     clock: &mut C,
     links: &mut Vec<L>,
+    notices: &mut N,
 ) -> (u8, D, D)
     ensures does { Does D.disk C.clock S.source O.sink L.link log result.1 side result.2 input.old input.new output.old output.new clock.old clock.new links.old.items links.new.items result.0 (Some job.entry) }
     ensures receives { D.disk.tells log → ReceiverServes (D.disk.seen log) (D.disk.faults log) (D.disk.faults result.1) (Some job.entry) result.0 }
@@ -90,20 +95,26 @@ fn do_job<S: Source, O: Sink, D: Disk, C: Clock, L: Link>(
 {
     match job {
         Job::Init(store) => init(output, log, side, store),
-        Job::Batch => batch(alloc, input, output, log, side, clock),
+        Job::Batch => batch(alloc, input, output, log, side, clock, notices),
         Job::Ingest { format, provider } => {
-            ingest(alloc, input, output, log, side, clock, format, provider)
+            ingest(
+                alloc, input, output, log, side, clock, format, provider, notices,
+            )
         }
-        Job::Import(caller) => take_table(alloc, input, output, log, side, clock, caller),
+        Job::Import(caller) => take_table(alloc, input, output, log, side, clock, caller, notices),
         Job::Package { caller, number } => {
-            take_package(alloc, input, output, log, side, clock, caller, number)
+            take_package(
+                alloc, input, output, log, side, clock, caller, number, notices,
+            )
         }
-        Job::Feed { subscriber, after } => feed(alloc, output, log, side, clock, subscriber, after),
-        Job::Queue => queue(alloc, output, log, side, clock),
+        Job::Feed { subscriber, after } => feed(
+            alloc, output, log, side, clock, subscriber, after, notices,
+        ),
+        Job::Queue => queue(alloc, output, log, side, clock, notices),
         Job::Archive { page, query } => {
-            ask_archive(alloc, output, log, side, page, query.as_str())
+            ask_archive(alloc, output, log, side, page, query.as_str(), notices)
         }
-        Job::Contents(publication) => list_contents(alloc, output, log, side, publication),
+        Job::Contents(publication) => list_contents(alloc, output, log, side, publication, notices),
         Job::Audit(after) => audit_list(alloc, output, log, side, after),
         Job::Ask(entries) => ask_past(alloc, input, output, log, side, entries),
         Job::Digest(entries) => digest_list(alloc, output, log, side, entries),
@@ -112,13 +123,13 @@ fn do_job<S: Source, O: Sink, D: Disk, C: Clock, L: Link>(
             publication,
             subscriber,
         } => explain(alloc, output, log, side, publication, subscriber),
-        Job::Drain => drain(alloc, output, log, side, clock, links),
+        Job::Drain => drain(alloc, output, log, side, clock, links, notices),
         Job::Receive(name) => receive(alloc, input, output, log, side, name),
         Job::Ship(name) => ship_list(alloc, output, log, side, links, name),
         Job::StandIn(store) => stand_in(alloc, store, input, output, log, side),
         Job::Drill { stories, seed } => drill(alloc, output, log, side, clock, stories, seed),
-        Job::Check => check(alloc, output, log, side),
-        Job::Pack => pack(alloc, output, log, side),
+        Job::Check => check(alloc, output, log, side, notices),
+        Job::Pack => pack(alloc, output, log, side, notices),
     }
 }
 
@@ -156,17 +167,18 @@ fn init<O: Sink, D: Disk>(output: &mut O, mut log: D, mut side: D, store: Uuid) 
 
 /// Answers the lines of the input.
 #[tactic(none)]
-fn batch<S: Source, O: Sink, D: Disk, C: Clock>(
+fn batch<S: Source, O: Sink, D: Disk, C: Clock, N: Notices>(
     alloc: Global,
     input: &mut S,
     output: &mut O,
     log: D,
     side: D,
     clock: &mut C,
+    notices: &mut N,
 ) -> (u8, D, D)
     ensures { IsBatch D.disk C.clock S.source O.sink log result.1 side result.2 input.old input.new output.old output.new clock.old clock.new result.0 }
 {
-    match open_room(alloc, log, side) {
+    match open_noticed(alloc, log, side, notices) {
         Ok(mut room) => {
             let status = answer_input(alloc, input, output, &mut room, clock);
             let (log, side) = room.into_keeper().into_disks();
@@ -178,7 +190,7 @@ fn batch<S: Source, O: Sink, D: Disk, C: Clock>(
 
 /// Releases what waits, and reports a subscriber's feed behind its first entries.
 #[tactic(none)]
-fn feed<O: Sink, D: Disk, C: Clock>(
+fn feed<O: Sink, D: Disk, C: Clock, N: Notices>(
     alloc: Global,
     output: &mut O,
     log: D,
@@ -186,10 +198,11 @@ fn feed<O: Sink, D: Disk, C: Clock>(
     clock: &mut C,
     subscriber: Name,
     after: u32,
+    notices: &mut N,
 ) -> (u8, D, D)
     ensures { IsReportOf D.disk C.clock O.sink log result.1 side result.2 output.old output.new clock.old clock.new result.0 (feed_report_at subscriber after) }
 {
-    match open_room(alloc, log, side) {
+    match open_noticed(alloc, log, side, notices) {
         Ok(mut room) => {
             let status = tell_feed(alloc, output, &mut room, clock, subscriber, after);
             let (log, side) = room.into_keeper().into_disks();
@@ -201,16 +214,17 @@ fn feed<O: Sink, D: Disk, C: Clock>(
 
 /// Releases what waits, and reports all feeds.
 #[tactic(none)]
-fn queue<O: Sink, D: Disk, C: Clock>(
+fn queue<O: Sink, D: Disk, C: Clock, N: Notices>(
     alloc: Global,
     output: &mut O,
     log: D,
     side: D,
     clock: &mut C,
+    notices: &mut N,
 ) -> (u8, D, D)
     ensures { IsReportOf D.disk C.clock O.sink log result.1 side result.2 output.old output.new clock.old clock.new result.0 queue_report_at }
 {
-    match open_room(alloc, log, side) {
+    match open_noticed(alloc, log, side, notices) {
         Ok(mut room) => {
             let status = tell_queue(alloc, output, &mut room, clock);
             let (log, side) = room.into_keeper().into_disks();
@@ -222,17 +236,18 @@ fn queue<O: Sink, D: Disk, C: Clock>(
 
 /// Pushes what is due over the links.
 #[tactic(none)]
-fn drain<O: Sink, D: Disk, C: Clock, L: Link>(
+fn drain<O: Sink, D: Disk, C: Clock, L: Link, N: Notices>(
     alloc: Global,
     output: &mut O,
     log: D,
     side: D,
     clock: &mut C,
     links: &mut Vec<L>,
+    notices: &mut N,
 ) -> (u8, D, D)
     ensures { IsDrain D.disk C.clock O.sink log result.1 side result.2 output.old output.new clock.old clock.new result.0 L.link links.old.items links.new.items }
 {
-    match open_room(alloc, log, side) {
+    match open_noticed(alloc, log, side, notices) {
         Ok(mut room) => {
             let status = drain_links(alloc, &mut room, clock, links.as_mut_slice(), output);
             let (log, side) = room.into_keeper().into_disks();
@@ -282,10 +297,16 @@ fn drill<O: Sink, D: Disk, C: Clock>(
 
 /// Opens the log and its side, and says what they hold.
 #[tactic(none)]
-fn check<O: Sink, D: Disk>(alloc: Global, output: &mut O, log: D, side: D) -> (u8, D, D)
+fn check<O: Sink, D: Disk, N: Notices>(
+    alloc: Global,
+    output: &mut O,
+    log: D,
+    side: D,
+    notices: &mut N,
+) -> (u8, D, D)
     ensures { IsCheck D.disk O.sink log result.1 side result.2 output.old output.new result.0 }
 {
-    match open_room(alloc, log, side) {
+    match open_noticed(alloc, log, side, notices) {
         Ok(room) => {
             let status = check_line(alloc, output, &room);
             let (log, side) = room.into_keeper().into_disks();
@@ -297,10 +318,16 @@ fn check<O: Sink, D: Disk>(alloc: Global, output: &mut O, log: D, side: D) -> (u
 
 /// Opens the log and its side, and packs them.
 #[tactic(none)]
-fn pack<O: Sink, D: Disk>(alloc: Global, output: &mut O, log: D, side: D) -> (u8, D, D)
+fn pack<O: Sink, D: Disk, N: Notices>(
+    alloc: Global,
+    output: &mut O,
+    log: D,
+    side: D,
+    notices: &mut N,
+) -> (u8, D, D)
     ensures { IsPack D.disk O.sink log result.1 side result.2 output.old output.new result.0 }
 {
-    let room = match open_room(alloc, log, side) {
+    let room = match open_noticed(alloc, log, side, notices) {
         Ok(room) => room,
         Err((log, side, trouble)) => return (tell_trouble(output, trouble), log, side),
     };

@@ -8,18 +8,19 @@ ghost use Rattle.room_runs.specs.Lines.{LONGEST_INPUT};
 ghost use Rattle.newsdesk_cli.specs.Command.{IsIngest};
 ghost use Rattle.newsdesk_cli.specs.Ingests.{IngestAnswered};
 
+use crate::opening::open_noticed;
 use crate::telling::tell_trouble;
 use command_words::IngestFormat;
+use list_marks::Notices;
 use news_io::{Clock, Disk, Keeper, Sink, Source};
 use news_room::Room;
 use news_types::Name;
 use room_runs::{ingest_agency_items, ingest_agency_wire, ingest_item, ingest_wire};
 use std::alloc::Global;
-use store_files::open_room;
 
 /// Opens the log and its side, and takes in what the input has, in this format, from this provider.
 #[tactic(none)]
-pub(crate) fn ingest<S: Source, O: Sink, D: Disk, C: Clock>(
+pub(crate) fn ingest<S: Source, O: Sink, D: Disk, C: Clock, N: Notices>(
     alloc: Global,
     input: &mut S,
     output: &mut O,
@@ -28,10 +29,11 @@ pub(crate) fn ingest<S: Source, O: Sink, D: Disk, C: Clock>(
     clock: &mut C,
     format: IngestFormat,
     provider: Name,
+    notices: &mut N,
 ) -> (u8, D, D)
     ensures { IsIngest D.disk C.clock S.source O.sink log result.1 side result.2 input.old input.new output.old output.new clock.old clock.new result.0 format provider }
 {
-    match open_room(alloc, log, side) {
+    match open_noticed(alloc, log, side, notices) {
         Ok(mut room) => {
             let status = take_in(alloc, input, output, &mut room, clock, format, provider);
             let (log, side) = room.into_keeper().into_disks();

@@ -11,6 +11,7 @@ mod digest;
 mod import;
 mod ingest;
 mod limits;
+mod opening;
 mod pack;
 mod package;
 mod standby;

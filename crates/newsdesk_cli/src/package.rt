@@ -1,16 +1,17 @@
 //! Packages, and what they hold.
 ghost use Rattle.newsdesk_cli.specs.Packages.{IsPackageOf};
 
+use crate::opening::open_noticed;
 use crate::telling::tell_trouble;
+use list_marks::Notices;
 use news_io::{Clock, Disk, Sink, Source};
 use news_types::Name;
 use std::alloc::Global;
-use store_files::open_room;
 use whole_runs::package_input;
 
 /// Publishes the package that the input is, as this caller's request of this number.
 #[tactic(none)]
-pub(crate) fn take_package<S: Source, O: Sink, D: Disk, C: Clock>(
+pub(crate) fn take_package<S: Source, O: Sink, D: Disk, C: Clock, N: Notices>(
     alloc: Global,
     input: &mut S,
     output: &mut O,
@@ -19,10 +20,11 @@ pub(crate) fn take_package<S: Source, O: Sink, D: Disk, C: Clock>(
     clock: &mut C,
     caller: Name,
     number: u64,
+    notices: &mut N,
 ) -> (u8, D, D)
     ensures { IsPackageOf D.disk C.clock S.source O.sink log result.1 side result.2 input.old input.new output.old output.new clock.old clock.new result.0 caller number }
 {
-    match open_room(alloc, log, side) {
+    match open_noticed(alloc, log, side, notices) {
         Ok(mut room) => {
             let status = package_input(alloc, input, output, &mut room, clock, caller, number);
             let (log, side) = room.into_keeper().into_disks();

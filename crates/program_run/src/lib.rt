@@ -10,14 +10,15 @@ ghost use Rattle.command_words.specs.Words.{job_of};
 ghost use Rattle.program_run.specs.Does.{Does, Serves, ReceiverServes, StandbyServes, UsesLinks};
 ghost use Rattle.program_run.specs.Inputs.{newsroom_formats};
 
+use list_marks::Notices;
 use news_io::{Clock, Disk, Link, Sink, Source};
 use news_types::Text;
 use std::alloc::Global;
 
 /// Does what the words ask for, and gives the status and the two disks back, the log's and the side's. Only `drain` and
-/// `ship` use the links; for `receive` the log is a receiver's.
+/// `ship` use the links; for `receive` the log is a receiver's. The notices hear of a newsroom's store that was opened.
 #[tactic(none)]
-pub fn run<S: Source, O: Sink, D: Disk, C: Clock, L: Link>(
+pub fn run<S: Source, O: Sink, D: Disk, C: Clock, L: Link, N: Notices>(
     alloc: Global,
     words: &[Text],
     input: &mut S,
@@ -26,6 +27,7 @@ pub fn run<S: Source, O: Sink, D: Disk, C: Clock, L: Link>(
     side: D,
     clock: &mut C,
     links: &mut Vec<L>,
+    notices: &mut N,
 ) -> (u8, D, D)
     ensures does { Does newsroom_formats
         (record { disk = D.disk; source = S.source; sink = O.sink; clock = C.clock; link = L.link })
@@ -54,5 +56,7 @@ pub fn run<S: Source, O: Sink, D: Disk, C: Clock, L: Link>(
     // Only `drain` and `ship` change the links.
     ensures links { (UsesLinks (job_of words.now) → ⊥) → links.new.items ≡ links.old.items }
 {
-    newsdesk_cli::run(alloc, words, input, output, log, side, clock, links)
+    newsdesk_cli::run(
+        alloc, words, input, output, log, side, clock, links, notices,
+    )
 }

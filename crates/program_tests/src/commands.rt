@@ -1,5 +1,6 @@
 //! Commands over two disks, an input and an output in memory.
 
+use list_marks::Unnoticed;
 use news_io::{Link, MemoryClock, MemoryDisk, MemorySink, MemorySource, UnreachableLink};
 use news_types::{Memory, Text};
 use newsdesk_cli::run;
@@ -58,6 +59,7 @@ pub(crate) fn done_at<L: Link>(
         side,
         &mut clock,
         links,
+        &mut Unnoticed,
     );
     if status == 9 {
         return Err(Memory);

@@ -2,6 +2,7 @@
 
 use crate::chance::Chance;
 use crate::link::{RoughLink, torn};
+use list_marks::Unnoticed;
 use news_io::{MemoryClock, MemoryDisk, MemorySink, MemorySource};
 use news_types::{Memory, Text};
 use newsdesk_cli::run;
@@ -80,6 +81,7 @@ impl Desk {
             side,
             &mut clock,
             links,
+            &mut Unnoticed,
         );
         self.log = if stops {
             torn(alloc, &log, &mut self.chance)?
