@@ -13,6 +13,7 @@ use std::time::{Clock, SystemTime, UNIX_EPOCH};
 const LONGEST_PAUSE: u64 = 2_678_400;
 
 /// Says on standard error what is noticed of a store.
+#[derive(Drop)]
 pub struct StoreNotices<'a, R> {
     rt: &'a R,
     store: &'a str,
