@@ -244,7 +244,6 @@ fn troubles(rt: HostRuntime) -> Result<(), Fail> {
 fn asks<R: Wait>(
     rt: &R,
     alloc: Global,
-    routes: &Routes,
     shared: &Shared<Room<MemoryKeeper>>,
     pass: Pass,
 ) -> (Pass, bool)
@@ -254,7 +253,7 @@ fn asks<R: Wait>(
     let (Ok(input), Ok(output)) = (joined(alloc, QUESTIONS), joined(alloc, TOLD)) else {
         return (pass, false);
     };
-    let Ok(readings) = vec![in alloc; 1000] else {
+    let (Ok(routes), Ok(readings)) = (Routes::new(alloc), vec![in alloc; 1000]) else {
         return (pass, false);
     };
     let mut clock = MemoryClock::new(readings);
@@ -263,7 +262,7 @@ fn asks<R: Wait>(
     let watch = Watch::new(alloc);
     let (ended, pass) = serve_connection(
         rt,
-        routes,
+        &routes,
         &watch,
         shared,
         pass,
@@ -279,7 +278,6 @@ fn asks<R: Wait>(
 fn beside<R: Threads + Wait + Sync>(
     rt: &R,
     alloc: Global,
-    routes: &Routes,
     shared: &Shared<Room<MemoryKeeper>>,
     passes: (Pass, Pass),
 ) -> (Pass, bool)
@@ -292,11 +290,11 @@ fn beside<R: Threads + Wait + Sync>(
         || -> (Pass, bool)
             requires { IsSync R.row × (lock_of one ≡ id_of shared.now) }
             ensures { lock_of result.0 ≡ id_of shared.entry.now }
-        { asks(rt, alloc, routes, shared, one) },
+        { asks(rt, alloc, shared, one) },
         || -> (Pass, bool)
             requires { IsSync R.row × (lock_of other ≡ id_of shared.now) }
             ensures { lock_of result.0 ≡ id_of shared.entry.now }
-        { asks(rt, alloc, routes, shared, other) },
+        { asks(rt, alloc, shared, other) },
     );
     (shared.join(one, other), first && second)
 }
@@ -304,14 +302,11 @@ fn beside<R: Threads + Wait + Sync>(
 #[test]
 fn two_threads_are_answered(rt: HostRuntime) -> Result<(), Fail> {
     let alloc = rt.alloc();
-    let Ok(routes) = Routes::new(alloc) else {
-        return Err(Fail::new("no routes"));
-    };
     let (shared, pass) = locked(&rt, alloc, empty_room(&rt, alloc));
     let Ok(passes) = shared.split(pass) else {
         return Err(Fail::new("no second pass"));
     };
-    let (_, is_so) = beside(&rt, alloc, &routes, &shared, passes);
+    let (_, is_so) = beside(&rt, alloc, &shared, passes);
     assert!(rt; is_so);
     Ok(())
 }
