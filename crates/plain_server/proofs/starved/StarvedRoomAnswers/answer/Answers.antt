@@ -13,3 +13,11 @@ returns-clause-ready c =
     ] in
     let did = c.answer_one-answer.ensures.1 c.requires.ready.0 asked in
     (onto c.answer_one-answer.ensures.0 c.requires.ready.0, did.turn.stands)
+
+pub returns-clause-turn : goal.returns-clause-turn
+returns-clause-turn c =
+    let answered = rw c.new-counts.ensures at c.answer_one-answer.ensures in
+    elim c.if-self.branch [
+      | then-self w ↦ rw w.self-is at answered
+      | else-self w ↦ rw w.self-is at answered
+    ]
