@@ -4,7 +4,7 @@
 A page of items, of 262,144 on a desk: where the newest thousand have the hundred that are asked for it should come within 5 ms, and where one item alone, the
 oldest, is found, within 15 ms. And whom a story would reach, of 256 subscribers with four products each, of 1,023 with filters over 4,096 conditions: within
 twice the time of publishing it to them. A store in memory is filled by `batch`, `serve` opens it, and each question is asked five times; the best time
-counts, with the tick, the answer and the connection in it. It ends with 1 where one takes longer.
+counts, with the tick and the answer as it comes over the connection. It ends with 1 where one takes longer.
 """
 import http.client
 import json
@@ -60,10 +60,10 @@ def ask(port, method, path, body=None, user="admin"):
     connection.connect()
     begun = time.monotonic()
     connection.request(method, path, body, {"X-User": user})
-    answer = json.loads(connection.getresponse().read())
+    answer = connection.getresponse().read()
     seconds = time.monotonic() - begun
     connection.close()
-    return seconds, answer
+    return seconds, json.loads(answer)
 
 
 def best(port, path):
