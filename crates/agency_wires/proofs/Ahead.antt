@@ -1,6 +1,6 @@
 -- What is ahead of a reader, byte by byte and piece by piece.
 use Rattle.std.proofs.Common.{◌≡◌, ◌≢◌, ℕ, ◌+◌, ◌-◌, ◌<◌, ◌≤◌, true, false, cond, List, [], ◌∷◌, ◌++◌, length, take, drop, get_or, Option, Some, refl, sym, ap, subst, ◌∙◌, arith, inl, inr, length-append, append_assoc, length-drop}
-use Rattle.std.proofs.lemmas.List.{append-nil, take_more, drop_more, take-append-drop, length-take-le}
+use Rattle.std.proofs.lemmas.List.{append-nil, take_more, drop_more, take-append-drop, take-take, drop-take, length-take-le}
 use Rattle.std.proofs.lemmas.Bool.{cases_eq, cases_Bool, eq-eqb, ne_eqb, le-ltb, lt-ltb}
 use Rattle.agency_wires.specs.declared.found.Found.{Found}
 use Rattle.agency_wires.specs.declared.found.Found.TheVariants as found
@@ -150,6 +150,14 @@ leads_on p q r piece i held b l e h t =
 leads_join : (p q r : Phase) (xs ys : List ℕ) → Leads p xs q → Leads q ys r → Leads p (xs ++ ys) r
 leads_join p q r [] ys h k = subst (λ z. Leads z ys r) (sym h) k
 leads_join p q r (b ∷ xs) ys h k = (h.0, h.1, h.2, leads_join h.1 q r xs ys h.3 k)
+
+take_two : (a n : ℕ) (xs : List ℕ) → take a xs ++ take n (drop a xs) ≡ take (a + n) xs
+take_two a n xs =
+    ap (λ z. z ++ take n (drop a xs)) (sym (take-take a (a + n) xs (omega arith))) ∙ ap (λ z. take a (take (a + n) xs) ++ z) (sym (drop-take a n xs)) ∙ take-append-drop a (take (a + n) xs)
+
+-- and over some bytes of it that leave it in its phase
+pub leads_past : (p q : Phase) (piece : List ℕ) (i n : ℕ) → Leads p (take i piece) q → Leads q (take n (drop i piece)) q → Leads p (take (i + n) piece) q
+leads_past p q piece i n h k = subst (λ z. Leads p z q) (take_two i n piece) (leads_join p q q (take i piece) (take n (drop i piece)) h k)
 
 -- it goes on over a piece
 pub goes : (at : ℕ) (p q : Phase) (held piece : List ℕ) → IsOpen at (Some p) held → length held + length piece ≤ 1_048_576 → Leads p piece q → IsOpen (at + length piece) (Some q) (held ++ piece)

@@ -5,3 +5,6 @@ pub mod Trims
 pub mod Sizes
 pub mod Named
 pub mod Lines
+pub mod Places
+pub mod Cleaning
+pub mod Wide

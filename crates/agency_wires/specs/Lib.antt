@@ -10,3 +10,4 @@ pub mod Headline
 pub mod HeldWords
 pub mod Identity
 pub mod Reading
+pub mod Cleaning

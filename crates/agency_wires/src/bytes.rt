@@ -6,6 +6,8 @@ ghost use Rattle.text7901.specs.Fields.{before, behind_byte};
 ghost use Rattle.agency_wires.specs.Messages.{ends_line, ends_message};
 ghost use Rattle.agency_wires.specs.Parts.{has};
 
+use memchr::memchr;
+
 /// Begins a message.
 pub const SOH: u8 = 1;
 /// Begins its text.
@@ -20,7 +22,7 @@ pub fn place_of(bytes: &[u8], stop: u8) -> Option<usize>
     ensures place { result ≡ position (λ b. b == stop) bytes.now }
     ensures bound { IfSome result (λ i. i < length bytes.now) }
 {
-    bytes.iter().position(|byte| *byte == stop)
+    memchr(stop, bytes)
 }
 
 /// Whether the byte is a CR or an LF.
@@ -52,5 +54,5 @@ pub fn split_around(bytes: &[u8], stop: u8) -> (&[u8], &[u8])
 pub fn has(bytes: &[u8], wanted: u8) -> bool
     ensures { result ≡ has wanted bytes.now }
 {
-    bytes.iter().any(|byte| *byte == wanted)
+    memchr(wanted, bytes).is_some()
 }

@@ -1,8 +1,9 @@
 //! The characters of some bytes of a message.
 
-ghost use Rattle.std.specs.Prelude.{◌≡◌, IfOk, map};
+ghost use Rattle.std.specs.Prelude.{◌≡◌, ◌++◌, IfOk, OnOk, map};
 ghost use Rattle.std.specs.Str.{chars};
-ghost use Rattle.agency_wires.specs.Characters.{windows_1252, characters, joins, kept_as, cleaned, decoded};
+ghost use Rattle.agency_wires.specs.Characters.{windows_1252, joins, kept_as, cleaned, decoded};
+ghost use Rattle.agency_wires.specs.Cleaning.{kept_before};
 
 use std::alloc::{AllocError, Global};
 
@@ -20,31 +21,36 @@ const UPPER_ROW: [char; 32] = [
 pub fn decoded(alloc: Global, bytes: &[u8]) -> Result<Vec<char>, AllocError>
     ensures { IfOk result (λ told. told.items ≡ decoded bytes.now) }
 {
-    let told = characters(alloc, bytes)?;
-    cleaned(alloc, told.as_slice())
-}
-
-fn characters(alloc: Global, bytes: &[u8]) -> Result<Vec<char>, AllocError>
-    ensures { IfOk result (λ told. told.items ≡ characters bytes.now) }
-{
     match str::from_utf8(bytes) {
-        Ok(text) => characters_of(alloc, text),
-        Err(_) => all_windows_1252(alloc, bytes),
+        Ok(text) => cleaned_text(alloc, text),
+        Err(_) => cleaned_windows_1252(alloc, bytes),
     }
 }
 
-fn all_windows_1252(alloc: Global, bytes: &[u8]) -> Result<Vec<char>, AllocError>
-    ensures { IfOk result (λ told. told.items ≡ map windows_1252 bytes.now) }
+/// What is kept of the characters of a text.
+fn cleaned_text(alloc: Global, text: &str) -> Result<Vec<char>, AllocError>
+    ensures { IfOk result (λ kept. kept.items ≡ cleaned (chars text.now)) }
 {
-    bytes.iter().map(|byte| windows_1252(*byte)).collect(alloc)
+    let mut kept = Vec::with_capacity(alloc, text.len())?;
+    let mut characters = text.chars();
+    while let Some(letter) = characters.next() {
+        put_kept(&mut kept, letter, characters.as_str().as_bytes())?;
+    }
+    Ok(kept)
 }
 
-fn characters_of(alloc: Global, text: &str) -> Result<Vec<char>, AllocError>
-    ensures { IfOk result (λ told. told.items ≡ chars text.now) }
+/// What is kept of bytes that are Windows-1252.
+fn cleaned_windows_1252(alloc: Global, bytes: &[u8]) -> Result<Vec<char>, AllocError>
+    ensures { IfOk result (λ kept. kept.items ≡ cleaned (map windows_1252 bytes.now)) }
 {
-    text.chars().collect(alloc)
+    let mut kept = Vec::with_capacity(alloc, bytes.len())?;
+    for (i, byte) in bytes.iter().enumerate() {
+        put_kept(&mut kept, windows_1252(*byte), &bytes[i + 1..])?;
+    }
+    Ok(kept)
 }
 
+#[inline(always)]
 fn windows_1252(byte: u8) -> char
     ensures { result ≡ windows_1252 byte }
 {
@@ -54,34 +60,35 @@ fn windows_1252(byte: u8) -> char
     }
 }
 
-/// The characters with LF for each line end, without controls but the tab.
-fn cleaned(alloc: Global, told: &[char]) -> Result<Vec<char>, AllocError>
-    ensures { IfOk result (λ kept. kept.items ≡ cleaned told.now) }
+/// Appends what is kept of a character that these bytes follow: an LF for each line end, and no
+/// controls but the tab.
+#[inline(always)]
+fn put_kept(kept: &mut Vec<char>, letter: char, rest: &[u8]) -> Result<(), AllocError>
+    ensures { OnOk result (kept.new.items ≡ kept.old.items ++ kept_before letter rest.now) }
 {
-    let mut kept = Vec::with_capacity(alloc, told.len())?;
-    for (i, letter) in told.iter().enumerate() {
-        if *letter == '\r' && joins(&told[i + 1..]) {
-            continue;
-        }
-        if let Some(letter) = kept_as(*letter) {
-            kept.push(letter)?;
-        }
+    if letter == '\r' && joins(rest) {
+        return Ok(());
     }
-    Ok(kept)
+    if let Some(letter) = kept_as(letter) {
+        kept.push(letter)?;
+    }
+    Ok(())
 }
 
 /// Whether these begin with an LF or a CR LF.
-fn joins(rest: &[char]) -> bool
+fn joins(rest: &[u8]) -> bool
     ensures { result ≡ joins rest.now }
 {
-    matches!(rest, ['\n', ..] | ['\r', '\n', ..])
+    matches!(rest, [b'\n', ..] | [b'\r', b'\n', ..])
 }
 
 /// An LF for a line end, none for a control but the tab, else the character itself.
+#[inline(always)]
 fn kept_as(letter: char) -> Option<char>
     ensures { result ≡ kept_as letter }
 {
     match letter {
+        ' '..='~' => Some(letter),
         '\r' | '\n' => Some('\n'),
         '\t' => Some('\t'),
         _ if letter.is_control() => None,

@@ -1,6 +1,6 @@
 //! Parts of some characters.
 
-ghost use Rattle.std.specs.Prelude.{◌≡◌, ◌<◌, ◌==◌, IfOk, IfSome, length, take};
+ghost use Rattle.std.specs.Prelude.{◌≡◌, ◌<◌, ◌==◌, IfOk, IfSome, length, take, count_by, nat_le};
 ghost use Rattle.std.specs.List.{position};
 ghost use Rattle.text7901.specs.Fields.{before, behind_byte, without_last_lf, utf8, fitting};
 ghost use Rattle.agency_wires.specs.Parts.{blank, trim, trim_front, front_word, behind_front_word, word, behind_word, line, behind_line, is_within};
@@ -113,6 +113,9 @@ pub fn without_last_lf(told: &[char]) -> &[char]
 pub fn is_within(most: usize, told: &[char]) -> bool
     ensures { result ≡ is_within most told.now }
 {
+    if told.len() <= most && wide_count(told) <= (most - told.len()) / 3 {
+        return true;
+    }
     let mut room = most;
     for letter in told {
         if letter.len_utf8() > room {
@@ -121,6 +124,13 @@ pub fn is_within(most: usize, told: &[char]) -> bool
         room -= letter.len_utf8();
     }
     true
+}
+
+/// How many of them have more than one byte as UTF-8. None has more than four.
+fn wide_count(told: &[char]) -> usize
+    ensures { result ≡ count_by (λ c. nat_le 128 c) told.now }
+{
+    told.iter().filter(|letter| **letter >= '\u{80}').count()
 }
 
 /// The characters as UTF-8.
@@ -138,7 +148,7 @@ pub fn utf8_text(alloc: Global, told: &[char]) -> Result<Text, Memory>
 pub fn fitting_text(alloc: Global, most: usize, told: &[char]) -> Result<Text, Memory>
     ensures { IfOk result (λ text. text ≡ fitting most told.now) }
 {
-    let mut string = String::new(alloc);
+    let mut string = String::with_capacity(alloc, most.min(told.len()))?;
     let mut room = most;
     for letter in told {
         if letter.len_utf8() > room {

@@ -1,5 +1,5 @@
 //! A link over TCP.
-ghost use Rattle.std.specs.Prelude.{◌≡◌, ◌≤◌, ℕ, length, take, map, IfOk, Ok};
+ghost use Rattle.std.specs.Prelude.{◌≡◌, ◌≤◌, ℕ, length, take, map, IfOk};
 ghost use Rattle.news_types.specs.Names.{Bytes as NameBytes};
 ghost use Rattle.news_io.specs.Link.{IsReply};
 
@@ -34,8 +34,6 @@ pub struct TcpLink<R> {
     /// How long one read or write over a connection may wait.
     patience: Duration,
     faults: Faults,
-    /// Why the last call that failed did.
-    last_error: Option<io::Error>,
 }
 
 /// A receiver's address, and the connection to it while there is one.
@@ -159,20 +157,6 @@ impl Peer {
     }
 }
 
-/// The same, and where it is an error, that is kept.
-fn keep_error<T>(done: io::Result<T>, last_error: &mut Option<io::Error>) -> io::Result<T>
-    ensures { IfOk result (λ value. done ≡ Ok value) }
-{
-    match done {
-        Ok(value) => Ok(value),
-        Err(error) => {
-            let kind = error.kind();
-            *last_error = Some(error);
-            Err(io::Error::from(kind))
-        }
-    }
-}
-
 /// The peer of a subscriber.
 fn peer_of<'a>(
     names: &[Name],
@@ -206,7 +190,6 @@ impl<R: Net<Stream = TcpStream> + Drop> TcpLink<R> {
             peers,
             patience: Duration::from_secs(PATIENCE),
             faults: Faults::none(),
-            last_error: None,
         })
     }
 
@@ -229,8 +212,8 @@ impl<R: Net<Stream = TcpStream> + Drop> TcpLink<R> {
 
 impl<R> TcpLink<R> {
     /// Why the last call that failed did.
-    pub fn last_error(&self) -> Option<&io::Error> {
-        self.last_error.as_ref()
+    pub fn last_error(&self) -> Option<io::Error> {
+        self.faults.last_error()
     }
 }
 
@@ -248,7 +231,6 @@ impl<R: Net<Stream = TcpStream>> Link for TcpLink<R> {
             Some(peer) => peer.send(&self.rt, self.alloc, self.patience, frame),
             None => Err(io::Error::from(ErrorKind::NotFound)),
         };
-        let sent = keep_error(sent, &mut self.last_error);
         self.faults.counted(sent)
     }
 
@@ -257,7 +239,6 @@ impl<R: Net<Stream = TcpStream>> Link for TcpLink<R> {
             Some(peer) => peer.receive(into),
             None => Err(io::Error::from(ErrorKind::NotFound)),
         };
-        let read = keep_error(read, &mut self.last_error);
         self.faults.counted(read)
     }
 }

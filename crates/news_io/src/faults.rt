@@ -9,10 +9,11 @@ use std::marker::Model;
 #[derive(Clone, Copy, Debug, PartialEq, Eq)]
 pub struct Failed;
 
-/// A count of faults, which stays at 2^64 - 1.
+/// A count of faults, which stays at 2^64 - 1, and the last error that the system gave for one.
 #[derive(Drop)]
 pub struct Faults {
     count: u64,
+    last: Option<io::Error>,
 }
 
 impl Model for Faults {
@@ -28,7 +29,10 @@ impl Faults {
     pub fn none() -> Faults
         ensures { result ≡ 0 }
     {
-        Faults { count: 0 }
+        Faults {
+            count: 0,
+            last: None,
+        }
     }
 
     /// Counts one, and gives the answer to it.
@@ -40,15 +44,30 @@ impl Faults {
         Failed
     }
 
-    /// Passes on what the system gave, and counts a failure.
+    /// Passes on what the system gave, counts a failure, and keeps its error.
     pub fn counted<T>(&mut self, given: io::Result<T>) -> Result<T, Failed>
         ensures count { Counts self.old self.new result }
         ensures value { IfOk result (λ value. given ≡ Ok value) }
     {
         match given {
             Ok(value) => Ok(value),
-            Err(_) => Err(self.fail()),
+            Err(error) => {
+                self.note(error);
+                Err(self.fail())
+            }
         }
+    }
+
+    /// Keeps an error of the system, and counts nothing.
+    pub fn note(&mut self, error: io::Error)
+        ensures { self.new ≡ self.old }
+    {
+        self.last = Some(error);
+    }
+
+    /// The last error that the system gave, if it gave one.
+    pub fn last_error(&self) -> Option<io::Error> {
+        self.last
     }
 
     /// How many there were.

@@ -48,18 +48,13 @@ fn options_for(access: Access) -> OpenOptions {
 }
 
 /// Takes a lock on the file, if one is wanted.
-fn lock_file(file: &File, lock: Lock, waits: bool) -> Result<(), NotOpened> {
-    let taken = match (lock, waits) {
+fn lock_file(file: &File, lock: Lock, waits: bool) -> Result<(), TryLockError> {
+    match (lock, waits) {
         (Lock::Unlocked, _) => Ok(()),
         (Lock::Shared, true) => file.lock_shared().map_err(TryLockError::Error),
         (Lock::Shared, false) => file.try_lock_shared(),
         (Lock::Exclusive, true) => file.lock().map_err(TryLockError::Error),
         (Lock::Exclusive, false) => file.try_lock(),
-    };
-    match taken {
-        Ok(()) => Ok(()),
-        Err(TryLockError::WouldBlock) => Err(NotOpened::Held),
-        Err(TryLockError::Error(_)) => Err(NotOpened::Failed),
     }
 }
 
@@ -180,13 +175,26 @@ impl<R: Files<File = File> + Drop> FileDisk<R> {
     pub fn open(&mut self, lock: Lock, waits: bool) -> Result<(), NotOpened>
         ensures { file_disk.faults self.new ≡ file_disk.faults self.old }
     {
-        if self.file.open().is_err() {
+        if let Err(error) = self.file.open() {
+            self.faults.note(error);
             return Err(NotOpened::Failed);
         }
-        match &self.file.file {
-            Some(file) => lock_file(file, lock, waits),
-            None => Err(NotOpened::Missing),
+        let Some(file) = &self.file.file else {
+            return Err(NotOpened::Missing);
+        };
+        match lock_file(file, lock, waits) {
+            Ok(()) => Ok(()),
+            Err(TryLockError::WouldBlock) => Err(NotOpened::Held),
+            Err(TryLockError::Error(error)) => {
+                self.faults.note(error);
+                Err(NotOpened::Failed)
+            }
         }
+    }
+
+    /// The system's error at the last call that failed, if one did.
+    pub fn last_error(&self) -> Option<io::Error> {
+        self.faults.last_error()
     }
 
     /// Whether a write was refused since the file is only to be read.

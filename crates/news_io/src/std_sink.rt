@@ -4,7 +4,7 @@ ghost use Rattle.std.specs.Prelude.{◌≡◌, IfOk};
 use crate::{Failed, Faults, Sink};
 use news_types::Memory;
 use std::alloc::Global;
-use std::io::{BufWriter, Write};
+use std::io::{self, BufWriter, Write};
 
 /// How many bytes are held back at most.
 const BUFFER: usize = 65536;
@@ -37,6 +37,11 @@ impl<W: Write + Drop> StdSink<W> {
         ensures { result ≡ std_sink.faults self.now }
     {
         self.faults.count()
+    }
+
+    /// The system's error at the last call that failed, if one did.
+    pub fn last_error(&self) -> Option<io::Error> {
+        self.faults.last_error()
     }
 }
 

@@ -51,6 +51,11 @@ impl<R: Read + Drop> StdSource<R> {
     {
         self.faults.count()
     }
+
+    /// The system's error at the last call that failed, if one did.
+    pub fn last_error(&self) -> Option<io::Error> {
+        self.faults.last_error()
+    }
 }
 
 impl<R: Read + Drop> Source for StdSource<R> {

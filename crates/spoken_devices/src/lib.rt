@@ -3,6 +3,7 @@
 
 mod disk;
 mod link;
+mod reply;
 
-pub use disk::{SpokenDisk, StoreFile};
+pub use disk::{KeepsError, SpokenDisk, StoreFile};
 pub use link::SpokenLink;

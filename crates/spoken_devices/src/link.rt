@@ -2,16 +2,18 @@
 ghost use Rattle.std.specs.Prelude.{◌≡◌, IfOk};
 ghost use Rattle.feed_links.specs.Links.{tcp_link};
 
+use crate::reply::{NoReply, is_reply};
 use error_lines::Rate;
 use feed_links::TcpLink;
 use news_io::{Failed, Link};
 use news_types::{Memory, Name};
 use std::alloc::Global;
+use std::fmt::Display;
 use std::net::{Net, TcpStream};
 use std::time::Clock;
 
-/// A link to receivers over TCP, each failure of which is told on standard error, at most once a minute for each subscriber. It
-/// means what it is made of.
+/// A link to receivers over TCP, each failure of which is told on standard error, and what came in place of a reply, at most once a
+/// minute for each subscriber. It means what it is made of.
 #[derive(Drop)]
 pub struct SpokenLink<R> {
     pub inner: TcpLink<R>,
@@ -49,16 +51,33 @@ impl<R: Net<Stream = TcpStream> + Clock + Eprint> SpokenLink<R> {
     fn tell(&mut self, subscriber: &Name)
         ensures { self.new.inner ≡ self.old.inner }
     {
+        if let Some(error) = self.inner.last_error() {
+            self.tell_why(subscriber, &error);
+        }
+    }
+
+    /// Tells what came in place of a reply of this subscriber, where it is none.
+    fn tell_reply(&mut self, subscriber: &Name, bytes: &[u8])
+        ensures { self.new.inner ≡ self.old.inner }
+    {
+        if !is_reply(subscriber, bytes) {
+            self.tell_why(subscriber, &NoReply { bytes });
+        }
+    }
+
+    fn tell_why<D: Display>(&mut self, subscriber: &Name, why: &D)
+        ensures { self.new.inner ≡ self.old.inner }
+    {
         let place = self
             .inner
             .names()
             .iter()
             .position(|name| *name == *subscriber);
-        let (Some(error), Some(place)) = (self.inner.last_error(), place) else {
+        let Some(place) = place else {
             return;
         };
         if let Some(rate) = self.rates.get_mut(place) {
-            rate.tell(&self.rt, "link", subscriber.as_str(), error);
+            rate.tell(&self.rt, "link", subscriber.as_str(), why);
         }
     }
 }
@@ -79,6 +98,9 @@ impl<R: Net<Stream = TcpStream> + Clock + Eprint> Link for SpokenLink<R> {
 
     fn receipt(&mut self, subscriber: &Name, into: &mut [u8; 128]) -> Result<usize, Failed> {
         let done = self.inner.receipt(subscriber, into);
+        if let Ok(length) = done {
+            self.tell_reply(subscriber, &into[..length]);
+        }
         self.told(subscriber, done)
     }
 }
